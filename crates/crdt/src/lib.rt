@@ -1,0 +1,2 @@
+// Replicated records: the interface of a record kind.
+pub mod kind;

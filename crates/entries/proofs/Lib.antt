@@ -1,0 +1,4 @@
+pub mod Fits
+pub mod Scans
+pub mod Turns
+pub mod Fills

@@ -1,0 +1,4 @@
+pub mod Refusals
+pub mod Words
+pub mod Readings
+pub mod Writes
