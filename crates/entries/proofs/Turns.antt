@@ -13,7 +13,7 @@ use Rattle.entries.specs.Rows.{Row, same-row, length-row, row-of, empty}
 use Rattle.entries.specs.Entries.{entry-word, end-word, entries, entries-and-end}
 use Rattle.entries.proofs.Scans.{tabulated-same}
 
-zero-at : (m k : ℕ) → _≡_ {A = ℕ} (getD (replicate m 0) k 0) 0
+pub zero-at : (m k : ℕ) → _≡_ {A = ℕ} (getD (replicate m 0) k 0) 0
 zero-at zero k = refl
 zero-at (suc m) zero = refl
 zero-at (suc m) (suc k) = zero-at m k

@@ -1,0 +1,3 @@
+// Records of sixteen counts, one a station, joined by the larger count.
+mod counts;
+pub mod g_counter;
