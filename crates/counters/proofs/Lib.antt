@@ -1,3 +1,4 @@
 pub mod Laws
 pub mod Joins
 pub mod Deltas
+pub mod Orders

@@ -1,5 +1,6 @@
 -- Counts as values: sixteen numbers, one a station, each at most top. Assumes nothing.
 --     counter-of xs            the counter that sixteen stored counts stand for
+--     clock-of xs              the clock that they stand for
 --     larger a b               the larger count, station by station
 --     only s n                 n at station s, and 0 elsewhere
 --     count-reported v s n     the delta of amount n at station s: its count with n added, alone; or a refusal
@@ -16,6 +17,9 @@ use Rattle.entries.specs.Rows.{Row, row-of, row-low}
 
 abbrev pub counter-of : List ℕ → Row 16777215
 counter-of xs = row-of 16777215 xs
+
+abbrev pub clock-of : List ℕ → Row 65535
+clock-of xs = row-of 65535 xs
 
 module _ {top : ℕ} where
   abbrev pub larger : Row top → Row top → Row top

@@ -1,10 +1,12 @@
 // What a counter and a vector clock share: sixteen stored counts, each standing for its low part.
 ghost use mathlib.Core.Path.{_≡_};
+ghost use lib.ListN.{getD};
 ghost use Rattle.std.specs.shelf.Lists.{sum};
 ghost use Rattle.words.specs.Refusals.{numbered, bare, value-or};
 ghost use Rattle.entries.specs.Kinds.{top-of};
 ghost use Rattle.entries.specs.Rows.{row-of, empty};
 ghost use Rattle.counters.specs.Counts.{larger, count-reported};
+ghost use Rattle.counters.specs.Orders.{nowhere-higher};
 use entries::kind::EntryKind;
 use words::refusal::Refusal;
 
@@ -49,6 +51,29 @@ pub(crate) fn delta(
     }
     into[station] = count;
     Ok(())
+}
+
+// The count of a station; 0 for a number that no station has.
+pub(crate) fn count(counts: &[u32; 16], kind: EntryKind, station: usize) -> u32
+    ensures { λ r. ⌜ r ≡ getD (row-of (top-of kind) (now (counts .entry)) .numbers) station 0 ⌝ }
+{
+    if station > 15 {
+        return 0;
+    }
+    counts[station] % (kind.top() + 1)
+}
+
+// Whether no count is higher than the other's.
+pub(crate) fn nowhere_higher(mine: &[u32; 16], theirs: &[u32; 16], kind: EntryKind) -> bool
+    ensures { λ r. ⌜ r ≡ nowhere-higher (row-of (top-of kind) (now (mine .entry))) (row-of (top-of kind) (now (theirs .entry))) ⌝ }
+{
+    for i in 0..16 {
+        let limit = kind.top() + 1;
+        if mine[i] % limit > theirs[i] % limit {
+            return false;
+        }
+    }
+    true
 }
 
 // The sum of the counts.

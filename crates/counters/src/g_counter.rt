@@ -29,10 +29,7 @@ impl GCounter {
     pub fn count(&self, station: usize) -> u32
         ensures { λ r. ⌜ r ≡ getD (counter-of (now (self .entry) .counts) .numbers) station 0 ⌝ }
     {
-        if station > 15 {
-            return 0;
-        }
-        self.counts[station] % 0x100_0000
+        counts::count(&self.counts, EntryKind::Counter, station)
     }
 
     // The sum of the counts.
