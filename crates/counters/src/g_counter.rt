@@ -19,7 +19,7 @@ use words::refusal::Refusal;
 pub struct Amount(pub u32);
 
 // A stored count stands for its low 24 bits.
-#[derive(Clone, Copy, PartialEq, Eq, Debug)]
+#[derive(Clone, Copy)]
 pub struct GCounter {
     pub counts: [u32; 16],
 }

@@ -20,7 +20,7 @@ use words::refusal::Refusal;
 pub struct Tick;
 
 // A stored count stands for its low 16 bits.
-#[derive(Clone, Copy, PartialEq, Eq, Debug)]
+#[derive(Clone, Copy)]
 pub struct VectorClock {
     pub counts: [u32; 16],
 }

@@ -1,0 +1,3 @@
+// Examples that are run. What is expected stands in the documents, or was worked out by hand.
+#[cfg(test)]
+mod counter;
