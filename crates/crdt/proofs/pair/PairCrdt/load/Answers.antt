@@ -1,4 +1,4 @@
-use mathlib.Core.Path.{_≡_, sym, _∙_}
+use mathlib.Core.Path.{sym, _∙_}
 use Rattle.words.specs.Readings.{left}
 use Rattle.crdt.proofs.Sides.{answered, pair-answer, pair-reader, after-refused, after-answered}
 use Rattle.crdt.proofs.pair.PairCrdt.load.Needs as need

@@ -1,10 +1,10 @@
 use mathlib.Core.List.{_++_}
 use mathlib.Core.Path.{_≡_, sym, ap, _∙_}
-use Prim.Native.Nat.{ℕ, _+_, _-_, _<_, _≤_}
+use Prim.Native.Nat.{_+_, _-_, _<_, _≤_}
 use native.Mathlib.Omega.{arith}
 use lib.ListN.{length, length-append}
 use Rattle.std.specs.declared.result.Result.the-variants.{Ok}
-use Rattle.words.specs.Writes.{write-leaves, write-answer}
+use Rattle.words.specs.Writes.{write-leaves}
 use Rattle.words.proofs.Writes.{answer-long, answer-short, answer-fits, leaves-long, leaves-short, leaves-both, length-leaves}
 use Rattle.crdt.proofs.pair.PairCrdt.write.Needs as need
 
