@@ -1,2 +1,3 @@
-// Replicated records: the interface of a record kind.
+// Replicated records: the interface of a record kind, and pairs of kinds.
 pub mod kind;
+pub mod pair;

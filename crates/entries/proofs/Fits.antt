@@ -8,7 +8,7 @@ use Rattle.std.proofs.shelf.Bits.{shr-shr}
 use Rattle.std.proofs.shelf.Tests.{eq-eqb, eqb-true}
 use Rattle.words.specs.Words.{kind, index, zero-run, formed}
 use Rattle.entries.specs.declared.kind.EntryKind.{EntryKind}
-use Rattle.entries.specs.declared.kind.EntryKind.the-variants.{Clock, Counter}
+use Rattle.entries.specs.declared.kind.EntryKind.the-variants.{Clock, Counter, Set}
 use Rattle.entries.specs.Kinds.{top-of, entry-number}
 use Rattle.entries.specs.Entries.{entry-word, end-word}
 
@@ -72,4 +72,11 @@ fits Counter = record {
   is-number = λ s n h l. omega arith;
   is-formed = λ s n h l. well-formed (entry-word 6 s n) 6 (kind-entry 6 s n) (let z : entry-word 6 s n / 2 ^ 0 % 2 ^ 0 ≡ 0 = omega arith in z);
   splits = λ w e f. split-long 6 w e;
+}
+fits Set = record {
+  no-end = λ e. omega arith;
+  small = lit< tt;
+  is-number = λ s n h l. omega arith;
+  is-formed = λ s n h l. well-formed (entry-word 7 s n) 7 (kind-entry 7 s n) (let z : entry-word 7 s n / 2 ^ 16 % 2 ^ 8 ≡ 0 = omega arith in z);
+  splits = λ w e f. split-short 7 w e (zero-bits w 7 e f);
 }

@@ -8,6 +8,7 @@ use words::word::WordKind;
 pub enum EntryKind {
     Clock,
     Counter,
+    Set,
 }
 
 impl EntryKind {
@@ -17,7 +18,7 @@ impl EntryKind {
         ensures bound { λ r. ⌜ r < 2 ^ 24 ⌝ }
     {
         match self {
-            EntryKind::Clock => 65_535,
+            EntryKind::Clock | EntryKind::Set => 65_535,
             EntryKind::Counter => 16_777_215,
         }
     }
@@ -29,6 +30,7 @@ impl EntryKind {
         match self {
             EntryKind::Clock => WordKind::ClockEntry,
             EntryKind::Counter => WordKind::CounterEntry,
+            EntryKind::Set => WordKind::SetEntry,
         }
     }
 }

@@ -1,3 +1,4 @@
 pub mod Walks
 pub mod Masks
 pub mod Writes
+pub mod Resumes
