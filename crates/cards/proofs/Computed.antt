@@ -1,7 +1,9 @@
 -- The worked examples hold: antt computes them. Assumes nothing.
+use mathlib.Core.Bool.{cond}
 use mathlib.Core.List.{List, [], _∷_}
 use mathlib.Core.Path.{_≡_, refl, sym, ap, _∙_}
 use Prim.Native.Nat.{ℕ, _+_, _-_}
+use lib.Dec.{ltb}
 use lib.ListN.{length, drop}
 use Rattle.std.specs.declared.result.Result.{Result}
 use Rattle.std.specs.declared.result.Result.the-variants.{Ok, Err}
@@ -11,6 +13,8 @@ use Rattle.entries.specs.Sixteen.{tabulated}
 use Rattle.entries.specs.Rows.{Row, same-row}
 use Rattle.entries.specs.Entries.{row-reading}
 use Rattle.counters.specs.Counts.{larger, only, count-reported}
+use Rattle.registers.specs.Bits.{packed}
+use Rattle.registers.specs.Members.{alone}
 use Rattle.cards.specs.Examples.{Worked-examples, five, five-and-two}
 
 -- words at place 0
@@ -25,7 +29,7 @@ descending-at r p e =
     ap (load-answer r) is ∙ ap (λ n. Err (record { number = 11; place = n; layer = r .layer })) place
 
 pub worked : Worked-examples
-unfolding tabulated
+unfolding tabulated packed
 worked = record {
   first-delta = ap Ok (same-row _ _ refl);
   second-delta = ap Ok (same-row _ _ refl);
@@ -36,4 +40,10 @@ worked = record {
   large-amount = refl;
   no-station = λ n. refl;
   descending = descending-at;
+  net = refl;
+  last-member = λ r e. ap (λ n. cond (ltb 255 n) (Err 2) (Ok (alone n))) e;
+  last-member-word = refl;
+  past-members = λ r e. ap (λ n. cond (ltb 255 n) (Err 2) (Ok (alone n))) e;
+  sideways = refl;
+  behind = refl;
 }

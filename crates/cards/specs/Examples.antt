@@ -9,11 +9,15 @@ use Rattle.std.specs.shelf.Lists.{sum}
 use Rattle.words.specs.declared.reader.Reader.{Reader}
 use Rattle.words.specs.Readings.{Told, load-answer, left}
 use Rattle.entries.specs.Rows.{Row, empty}
-use Rattle.entries.specs.Entries.{row-reading}
-use Rattle.counters.specs.Counts.{larger, only, count-reported}
-
-abbrev pub Counter : Type 0
-Counter = Row 16777215
+use Rattle.entries.specs.Entries.{row-written, row-reading}
+use Rattle.counters.specs.Counts.{clock-of, larger, only, count-reported}
+use Rattle.counters.specs.Orders.{compared}
+use Rattle.counters.specs.declared.clock_order.ClockOrder.the-variants.{Behind, Sideways}
+use Rattle.registers.specs.declared.gset.Member.{Member}
+use Rattle.registers.specs.Members.{none, alone, set-reported}
+use Rattle.registers.specs.Values.{level-of}
+use lib.IntN.{negsuc}
+use Rattle.cards.specs.Cards.{Counter, net-of}
 
 -- no counts, and 5 and 7 of station 0 joined in
 abbrev pub five : Counter
@@ -36,3 +40,12 @@ pub record Worked-examples : Type 0 where
   pub no-station : (n : ℕ) → count-reported five 16 n ≡ Err 1
   -- counter words 0x61000003, 0x60000004 are refusal 11 at word 1
   pub descending : (r : Reader) → r .place ≡ 0 → r .words .now ≡ 0x61000003 ∷ 0x60000004 ∷ [] → load-answer r (row-reading 6 16777215 (left r)) ≡ Err (record { number = 11; place = 1; layer = r .layer })
+  -- taken 3, returned 5: net -2
+  pub net : net-of ((empty 16777215, (only 0 3, only 0 5)), (none, level-of 0)) ≡ negsuc 1
+  -- member 255 is written 0x7F008000; 256 is refusal 2
+  pub last-member : (r : Member) → r .0 ≡ 255 → set-reported none 0 r ≡ Ok (alone 255)
+  pub last-member-word : row-written 7 (alone 255) ≡ 0x7F008000 ∷ 0x90000001 ∷ []
+  pub past-members : (r : Member) → r .0 ≡ 256 → set-reported none 0 r ≡ Err 2
+  -- clock {0:2, 1:1} is sideways to {0:1, 1:2}, and {0:1} is behind the latter
+  pub sideways : compared (clock-of (2 ∷ 1 ∷ [])) (clock-of (1 ∷ 2 ∷ [])) ≡ Sideways
+  pub behind : compared (clock-of (1 ∷ [])) (clock-of (1 ∷ 2 ∷ [])) ≡ Behind

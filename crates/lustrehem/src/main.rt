@@ -77,7 +77,10 @@ fn arrive_late(
     from_zero: &Envelope,
     late: &Envelope,
 ) -> Result<(), AnyError> {
-    println!(rt, "weeks later, the record of station 2, first as a damaged copy")?;
+    println!(
+        rt,
+        "weeks later, the record of station 2, first as a damaged copy"
+    )?;
     let damaged = late.damaged();
     take(rt, zero, &damaged)?;
     take(rt, zero, late)?;
@@ -119,11 +122,17 @@ fn take(rt: &LibcRuntime, station: &mut Station, envelope: &Envelope) -> Result<
     match receive(&mut station.erased, envelope.words()) {
         Ok(_) => {
             let counts = Counts(&station.erased);
-            println!(rt, "station {number} joins the record of station {sender}: {counts}")?;
+            println!(
+                rt,
+                "station {number} joins the record of station {sender}: {counts}"
+            )?;
         }
         Err(fault) => {
             let found = Found(fault);
-            println!(rt, "station {number} refuses the record of station {sender}: {found}")?;
+            println!(
+                rt,
+                "station {number} refuses the record of station {sender}: {found}"
+            )?;
         }
     }
     Ok(())
@@ -138,6 +147,9 @@ fn decide(rt: &LibcRuntime, station: &Station) -> Result<(), AnyError> {
         Verdict::Pulled => "pulled",
         Verdict::GoesBack => "goes back",
     };
-    println!(rt, "station {number}: {counts}; total {total} of {RATED}: {verdict}")?;
+    println!(
+        rt,
+        "station {number}: {counts}; total {total} of {RATED}: {verdict}"
+    )?;
     Ok(())
 }

@@ -1,4 +1,6 @@
 // A counter: its amounts, its limit, its words, and words that are refused.
+use crate::support;
+use crate::support::wrong;
 use counters::g_counter::Amount;
 use counters::g_counter::GCounter;
 use counters::g_counter::GCounterCrdt;
@@ -7,55 +9,36 @@ use std::test::*;
 use words::fault::Fault;
 use words::fault::FaultDebug;
 use words::fault::FaultPartialEq;
-use words::fault::Layer;
-use words::reader::Reader;
 use words::refusal::Refusal;
 use words::refusal::RefusalDebug;
 use words::refusal::RefusalPartialEq;
 
-// What a report answers, joined in where it is accepted.
-fn report(counter: &mut GCounter, station: usize, amount: u32) -> Result<(), Refusal> {
-    let mut delta = GCounterCrdt::bottom();
-    let answer = counter.delta(station, Amount(amount), &mut delta);
-    counter.join(&delta);
-    answer
-}
-
-// What a load of words from a place answers.
+// What a load answers.
 fn load(words: &[u32], place: usize) -> Result<usize, Fault> {
     let mut counter = GCounterCrdt::bottom();
-    let mut reader = Reader {
-        words,
-        place,
-        layer: Layer::Record,
-    };
-    counter.load(&mut reader)
+    support::load(&mut counter, words, place)
 }
 
-fn wrong(refusal: Refusal, place: usize) -> Result<usize, Fault> {
-    Err(Fault {
-        refusal,
-        place,
-        layer: Layer::Record,
-    })
+fn add(counter: &mut GCounter, station: usize, amount: u32) -> Result<(), Refusal> {
+    support::report(counter, station, Amount(amount))
 }
 
 #[test]
 fn amounts_add_up() -> Result<(), Fail> {
     let mut counter = GCounterCrdt::bottom();
-    check_eq(report(&mut counter, 0, 5), Ok(()))?;
-    check_eq(report(&mut counter, 0, 2), Ok(()))?;
+    check_eq(add(&mut counter, 0, 5), Ok(()))?;
+    check_eq(add(&mut counter, 0, 2), Ok(()))?;
     check_eq(counter.count(0), 7)?;
     check_eq(counter.total(), 7)?;
-    check_eq(report(&mut counter, 15, 65_535), Ok(()))?;
+    check_eq(add(&mut counter, 15, 65_535), Ok(()))?;
     check_eq(counter.total(), 65_542)
 }
 
 #[test]
 fn a_delta_holds_one_count() -> Result<(), Fail> {
     let mut counter = GCounterCrdt::bottom();
-    check_eq(report(&mut counter, 3, 8), Ok(()))?;
-    check_eq(report(&mut counter, 4, 1), Ok(()))?;
+    check_eq(add(&mut counter, 3, 8), Ok(()))?;
+    check_eq(add(&mut counter, 4, 1), Ok(()))?;
     let mut delta = counter;
     check_eq(counter.delta(3, Amount(2), &mut delta), Ok(()))?;
     check_eq(delta.count(3), 10)?;
@@ -67,10 +50,10 @@ fn a_delta_holds_one_count() -> Result<(), Fail> {
 #[test]
 fn station_is_looked_at_before_amount() -> Result<(), Fail> {
     let mut counter = GCounterCrdt::bottom();
-    check_eq(report(&mut counter, 0, 0), Err(Refusal::Range))?;
-    check_eq(report(&mut counter, 0, 65_536), Err(Refusal::Range))?;
-    check_eq(report(&mut counter, 16, 1), Err(Refusal::Station))?;
-    check_eq(report(&mut counter, 16, 0), Err(Refusal::Station))?;
+    check_eq(add(&mut counter, 0, 0), Err(Refusal::Range))?;
+    check_eq(add(&mut counter, 0, 65_536), Err(Refusal::Range))?;
+    check_eq(add(&mut counter, 16, 1), Err(Refusal::Station))?;
+    check_eq(add(&mut counter, 16, 0), Err(Refusal::Station))?;
     check_eq(Refusal::Station.number(), 1)?;
     check_eq(Refusal::Range.number(), 2)?;
     check_eq(counter.total(), 0)
@@ -81,11 +64,11 @@ fn the_limit_is_reached_and_not_passed() -> Result<(), Fail> {
     let mut counter = GCounter {
         counts: [16_777_214; 16],
     };
-    check_eq(report(&mut counter, 9, 2), Err(Refusal::Limit))?;
-    check_eq(report(&mut counter, 9, 1), Ok(()))?;
+    check_eq(add(&mut counter, 9, 2), Err(Refusal::Limit))?;
+    check_eq(add(&mut counter, 9, 1), Ok(()))?;
     check_eq(counter.count(9), 16_777_215)?;
-    check_eq(report(&mut counter, 9, 1), Err(Refusal::Limit))?;
-    check_eq(report(&mut counter, 9, 0), Err(Refusal::Range))?;
+    check_eq(add(&mut counter, 9, 1), Err(Refusal::Limit))?;
+    check_eq(add(&mut counter, 9, 0), Err(Refusal::Range))?;
     check_eq(counter.total(), 268_435_425)
 }
 
@@ -112,8 +95,8 @@ fn spare_bits_say_nothing() -> Result<(), Fail> {
 fn words_stand_where_they_are_written() -> Result<(), Fail> {
     let mut counter = GCounterCrdt::bottom();
     check_eq(counter.size(), 1)?;
-    check_eq(report(&mut counter, 1, 4), Ok(()))?;
-    check_eq(report(&mut counter, 15, 3), Ok(()))?;
+    check_eq(add(&mut counter, 1, 4), Ok(()))?;
+    check_eq(add(&mut counter, 15, 3), Ok(()))?;
     check_eq(counter.size(), 3)?;
     let mut words = [9; 6];
     check_eq(counter.write(&mut words, 4), Err(Refusal::Room))?;
@@ -127,13 +110,37 @@ fn words_stand_where_they_are_written() -> Result<(), Fail> {
 fn wrong_words_are_named_by_their_place() -> Result<(), Fail> {
     check_eq(load(&[], 0), wrong(Refusal::Ended, 0))?;
     check_eq(load(&[0x9000_0000], 7), wrong(Refusal::Ended, 0))?;
-    check_eq(load(&[0x6000_0001, 0x6100_0001], 0), wrong(Refusal::Ended, 0))?;
-    check_eq(load(&[0x5000_0001, 0x9000_0001], 0), wrong(Refusal::Kind, 0))?;
-    check_eq(load(&[0x6000_0001, 0x0000_0009], 0), wrong(Refusal::Kind, 1))?;
-    check_eq(load(&[0x6100_0003, 0x6000_0004], 0), wrong(Refusal::Form, 1))?;
-    check_eq(load(&[0x6100_0003, 0x6100_0004], 0), wrong(Refusal::Form, 1))?;
-    check_eq(load(&[0x6200_0000, 0x9000_0001], 0), wrong(Refusal::Form, 0))?;
-    check_eq(load(&[0x6200_0001, 0x9000_0002], 0), wrong(Refusal::Form, 1))?;
-    check_eq(load(&[0x6200_0001, 0x9000_0021], 0), wrong(Refusal::Form, 1))?;
+    check_eq(
+        load(&[0x6000_0001, 0x6100_0001], 0),
+        wrong(Refusal::Ended, 0),
+    )?;
+    check_eq(
+        load(&[0x5000_0001, 0x9000_0001], 0),
+        wrong(Refusal::Kind, 0),
+    )?;
+    check_eq(
+        load(&[0x6000_0001, 0x0000_0009], 0),
+        wrong(Refusal::Kind, 1),
+    )?;
+    check_eq(
+        load(&[0x6100_0003, 0x6000_0004], 0),
+        wrong(Refusal::Form, 1),
+    )?;
+    check_eq(
+        load(&[0x6100_0003, 0x6100_0004], 0),
+        wrong(Refusal::Form, 1),
+    )?;
+    check_eq(
+        load(&[0x6200_0000, 0x9000_0001], 0),
+        wrong(Refusal::Form, 0),
+    )?;
+    check_eq(
+        load(&[0x6200_0001, 0x9000_0002], 0),
+        wrong(Refusal::Form, 1),
+    )?;
+    check_eq(
+        load(&[0x6200_0001, 0x9000_0021], 0),
+        wrong(Refusal::Form, 1),
+    )?;
     check_eq(load(&[0x6200_0001, 0x9000_0001, 0x6300_0001], 0), Ok(2))
 }
