@@ -39,7 +39,9 @@ pub(crate) fn check(reader: &Reader) -> Result<Word, Fault>
     let Some(word) = reader.look() else {
         return Err(reader.fault(Refusal::Ended));
     };
-    if !word.is(WordKind::FullHead) && !word.is(WordKind::DeltaHead) {
+    let full = word.is(WordKind::FullHead);
+    let delta = word.is(WordKind::DeltaHead);
+    if !full && !delta {
         return Err(reader.fault(Refusal::Kind));
     }
     if !word.is_well_formed() {
