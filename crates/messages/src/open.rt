@@ -2,8 +2,8 @@
 ghost use mathlib.Core.Path.{_≡_};
 ghost use Rattle.std.specs.Results.{Cases};
 ghost use Rattle.wire.specs.Openings.{opening};
-ghost use Rattle.wire.specs.Answers.{open-answer};
-ghost use Rattle.messages.specs.Headers.{open-told, Sound};
+ghost use Rattle.wire.specs.Answers.{open-answer, joined-words};
+ghost use Rattle.messages.specs.Headers.{open-told, parts, Sound};
 use crate::header::Header;
 use crate::opened::Opened;
 use crate::read::read_header;
@@ -16,6 +16,7 @@ use words::reader::Reader;
 // The parts of the message that the given words are.
 pub fn open(words: &[u32]) -> Result<Opened<'_>, Fault>
     ensures answer { λ r. ⌜ open-told r ≡ open-answer (now (words .entry)) (opening (now (words .entry))) ⌝ }
+    ensures whole { λ r. ⌜ Cases r (λ o. now (words .entry) ≡ joined-words (parts o)) (λ _. Unit {0}) ⌝ }
     ensures sound { λ r. ⌜ Cases r Sound (λ _. Unit {0}) ⌝ }
 {
     let mut reader = Reader {

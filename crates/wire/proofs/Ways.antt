@@ -239,6 +239,15 @@ module _ (ws : List ℕ) (m : Message Clock (Unit {0})) (more : List ℕ) (o : o
       let q = parts ws m more o .1 .station in
       omega arith
 
+-- the parts of an opened message are all of its words
+opened-by : (ws : List ℕ) (x : Reading (Message Clock (Unit {0}))) (p : Message (List ℕ) (List ℕ)) → opening ws ≡ x → Ok p ≡ open-answer ws x → ws ≡ packed-by (λ xs. xs) (λ xs. xs) p
+opened-by ws (read (full s c u) more) p o e = let q : p ≡ full s (clock-written c) more = cc in parts ws (full s c u) more o .0 ∙ ap (packed-by (λ xs. xs) (λ xs. xs)) (sym q)
+opened-by ws (read (delta s f t u) more) p o e = let q : p ≡ delta s f t more = cc in parts ws (delta s f t u) more o .0 ∙ ap (packed-by (λ xs. xs) (λ xs. xs)) (sym q)
+opened-by ws (wrong n more) p o e = let z : _≡_ {A = ℕ} 0 1 = cc in absurd (omega arith)
+
+pub opened-words : (ws : List ℕ) (p : Message (List ℕ) (List ℕ)) → Ok p ≡ open-answer ws (opening ws) → ws ≡ packed-by (λ xs. xs) (λ xs. xs) p
+opened-words ws p e = opened-by ws (opening ws) p refl e
+
 -- a reader that began at the front of the words of an opened message, and stands at its record
 module _ (start s : Reader) (front : start .place ≡ 0) (m : Message Clock (Unit {0})) (more : List ℕ) (o : opening (start .words .now) ≡ read m more) (stands : s ≡ before start more) where
   pub at-record : At start s more

@@ -12,7 +12,7 @@ use Rattle.wire.specs.Messages.{full, delta}
 use Rattle.wire.specs.Openings.{opening}
 use Rattle.wire.specs.Answers.{open-answer}
 use Rattle.wire.proofs.Steps.{fault-front}
-use Rattle.wire.proofs.Ways.{header-ok, header-err, end-low, opened-full, opened-delta, sender-low}
+use Rattle.wire.proofs.Ways.{header-ok, header-err, end-low, opened-full, opened-delta, opened-words, sender-low}
 use Rattle.messages.specs.Headers.{header-parts, open-told}
 use Rattle.messages.proofs.open.open.Needs as need
 
@@ -24,6 +24,7 @@ returns-in-Break-header c =
     let q = header-err start (opening ws) _ (c .in-Break-header .ensures tt .answer) in
     record {
       answer = ap open-told (p .1 ∙ ap Err (p .2)) ∙ ap Err (q .3 ∙ fault-front start (q .0) (q .1) refl) ∙ sym (ap (open-answer ws) (q .2));
+      whole = cases-from-err _ _ _ (c .from-residual .ensures .0) (λ _. tt);
       sound = cases-from-err _ _ _ (c .from-residual .ensures .0) (λ _. tt);
     }
 
@@ -53,8 +54,10 @@ returns-in-Full c =
     let end = c .read-header .last .reader .place in
     let at : end ≡ 0 + length ws - length (q .1) = ap (λ (r : Reader). r .place) (c .read-header .ensures .reader ∙ ap (λ x. before start (rest x)) (q .2)) in
     let is : end ≡ length ws - length (q .1) = omega arith in
+    let answer = opened-full ws (q .0) (q .1) (q .2) end is (c .in-Full .sender) b in
     record {
-      answer = opened-full ws (q .0) (q .1) (q .2) end is (c .in-Full .sender) b;
+      answer = answer;
+      whole = opened-words ws _ answer;
       sound = sender-low ws (q .0) (q .1) (q .2) end is (full (c .in-Full .sender) tt tt) b;
     }
 
@@ -68,7 +71,9 @@ returns-in-Delta c =
     let end = c .read-header .last .reader .place in
     let at : end ≡ 0 + length ws - length (q .1) = ap (λ (r : Reader). r .place) (c .read-header .ensures .reader ∙ ap (λ x. before start (rest x)) (q .2)) in
     let is : end ≡ length ws - length (q .1) = omega arith in
+    let answer = opened-delta ws (q .0) (q .1) (q .2) end is (c .in-Delta .sender) (span .from) (span .to) b in
     record {
-      answer = opened-delta ws (q .0) (q .1) (q .2) end is (c .in-Delta .sender) (span .from) (span .to) b;
+      answer = answer;
+      whole = opened-words ws _ answer;
       sound = (sender-low ws (q .0) (q .1) (q .2) end is (delta (c .in-Delta .sender) (span .from) (span .to) tt) b, span .rises .0, span .rises .1);
     }
