@@ -1,0 +1,5 @@
+pub mod Heads
+pub mod Laws
+pub mod Steps
+pub mod Packs
+pub mod Ways
