@@ -46,4 +46,5 @@ worked = record {
   past-members = λ r e. ap (λ n. cond (ltb 255 n) (Err 2) (Ok (alone n))) e;
   sideways = refl;
   behind = refl;
+  first-message = refl;
 }

@@ -4,20 +4,24 @@
 --     net-of v                spare blocks taken less those returned
 --     retired-count v         block groups retired; is-retired v g, whether group g is
 --     firmware-of v           the highest firmware revision seen
+--     card-written v          its words
 --     Loan, loan-of l         the values of loan records, and the one that a stored record stands for
 --     loans-total v           loans made; is-marked v m, whether card m is marked; marked-count v, how many are
 use mathlib.Core.Bool.{Bool}
+use mathlib.Core.List.{List}
 use Prim.Native.Nat.{ℕ}
 use lib.IntN.{ℤ, pos, _-ℤ_}
 use Rattle.std.specs.shelf.Lists.{sum}
 use Rattle.crdt.specs.declared.pair.Pair.{Pair}
+use Rattle.crdt.specs.Pairs.{side-written}
 use Rattle.counters.specs.declared.g_counter.GCounter.{GCounter}
 use Rattle.counters.specs.Counts.{counter-of}
+use Rattle.entries.specs.Entries.{row-written}
 use Rattle.entries.specs.Rows.{Row}
 use Rattle.registers.specs.declared.gset.GSet.{GSet}
 use Rattle.registers.specs.declared.max_register.MaxRegister.{MaxRegister}
 use Rattle.registers.specs.Members.{Members, members-of, has, count}
-use Rattle.registers.specs.Values.{Level, level-of}
+use Rattle.registers.specs.Values.{Level, level-of, level-written}
 
 abbrev pub Counter : Type 0
 Counter = Row 16777215
@@ -42,6 +46,9 @@ is-retired v g = has (v .1 .0) g
 
 abbrev pub firmware-of : Card → ℕ
 firmware-of v = v .1 .1 .level
+
+abbrev pub card-written : Card → List ℕ
+card-written = side-written (side-written (row-written 6) (side-written (row-written 6) (row-written 6))) (side-written (row-written 7) level-written)
 
 abbrev pub Loan : Type 0
 Loan = Counter × Members

@@ -17,7 +17,8 @@ use Rattle.registers.specs.declared.gset.Member.{Member}
 use Rattle.registers.specs.Members.{none, alone, set-reported}
 use Rattle.registers.specs.Values.{level-of}
 use lib.IntN.{negsuc}
-use Rattle.cards.specs.Cards.{Counter, net-of}
+use Rattle.wire.specs.Messages.{delta, Clock, clock-written, packed-by}
+use Rattle.cards.specs.Cards.{Counter, net-of, card-written}
 
 -- no counts, and 5 and 7 of station 0 joined in
 abbrev pub five : Counter
@@ -49,3 +50,5 @@ pub record Worked-examples : Type 0 where
   -- clock {0:2, 1:1} is sideways to {0:1, 1:2}, and {0:1} is behind the latter
   pub sideways : compared (clock-of (2 ∷ 1 ∷ [])) (clock-of (1 ∷ 2 ∷ [])) ≡ Sideways
   pub behind : compared (clock-of (1 ∷ [])) (clock-of (1 ∷ 2 ∷ [])) ≡ Behind
+  -- with erased 5 and 2 at station 0, its first delta message
+  pub first-message : packed-by {C = Clock} clock-written card-written (delta 0 0 2 ((five-and-two, (empty 16777215, empty 16777215)), (none, level-of 0))) ≡ 0x20000009 ∷ 0x30000000 ∷ 0x40000002 ∷ 0x60000007 ∷ 0x90000001 ∷ 0x90000000 ∷ 0x90000000 ∷ 0x90000000 ∷ 0x80000000 ∷ []

@@ -1,6 +1,5 @@
 // A pair of any two kinds, side by side.
-ghost use mathlib.Core.List.{_++_};
-ghost use Rattle.crdt.specs.Pairs.{each, side-reported, then-right};
+ghost use Rattle.crdt.specs.Pairs.{each, side-reported, side-written, then-right};
 use crate::kind::Crdt;
 use words::fault::Fault;
 use words::reader::Reader;
@@ -35,7 +34,7 @@ pub impl<L: Crdt, R: Crdt> Crdt for Pair<L, R> as PairCrdt {
 
     ghost reported = { side-reported (L·Crdt .least) (R·Crdt .least) (L·Crdt .reported) (R·Crdt .reported) };
 
-    ghost written = { λ v. L·Crdt .written (v .0) ++ R·Crdt .written (v .1) };
+    ghost written = { side-written (L·Crdt .written) (R·Crdt .written) };
 
     ghost reading = { λ ws. then-right (R·Crdt .reading) (L·Crdt .reading ws) };
 
