@@ -65,10 +65,10 @@ has-any P m =
     (λ h. has-set P m h ∙ ap (λ t. t && P m) (sym (lt-ltb m 256 h)))
     (λ h. has-above (set-of P) m h ∙ ap (λ t. t && P m) (sym (le-ltb m 256 h)))
 
-has-none : (m : ℕ) → has none m ≡ false
+pub has-none : (m : ℕ) → has none m ≡ false
 has-none m = by-range (λ n. has none n ≡ false) m (λ h. has-set (λ j. false) m h) (λ h. has-above none m h)
 
-has-alone : (n : ℕ) → n < 256 → (m : ℕ) → has (alone n) m ≡ eqb m n
+pub has-alone : (n : ℕ) → n < 256 → (m : ℕ) → has (alone n) m ≡ eqb m n
 has-alone n l m =
     by-range (λ j. has (alone n) j ≡ eqb j n) m
     (λ h. has-set (λ j. eqb j n) m h)
@@ -81,7 +81,7 @@ has-union a b m =
     (λ h. has-above (union a b) m h ∙ sym (ap (λ t. t || has b m) (has-above a m h) ∙ has-above b m h))
 
 pub subsets : Subsets
-subsets = record { same = same-members; any = has-any; in-none = has-none; in-alone = has-alone; in-union = has-union }
+subsets = record { same = same-members; any = has-any; below = has-above }
 
 or-assoc : (x y z : Bool) → ((x || y) || z) ≡ (x || (y || z))
 or-assoc true y z = refl

@@ -7,12 +7,14 @@
 --     union a b            the members of a and those of b
 --     how-many P n         how many numbers below n pass P
 --     count v              how many members a set has
---     set-reported v s r   the delta of report r at station s: that has alone; or 1 or 2
---     Subsets              the sets are exactly the sets of numbers from 0 to 255, and each definition has the members that it says
+--     set-reported v s r   the delta of report r at station s: that member alone; or 1 or 2
+--     Unites a b c         c has the members of a and those of b, and no others
+--     Only taken n c       c has n as its only member where a report was taken, and none where it was not
+--     Subsets              the sets are exactly the sets of numbers from 0 to 255
 use mathlib.Core.Bool.{Bool, false, cond, _&&_, _||_}
 use mathlib.Core.List.{List}
 use mathlib.Core.Path.{_≡_}
-use Prim.Native.Nat.{ℕ, zero, suc, _+_, _*_, _/_, _%_, _<_}
+use Prim.Native.Nat.{ℕ, zero, suc, _+_, _*_, _/_, _%_, _<_, _≤_}
 use lib.Dec.{ltb, eqb}
 use lib.ListN.{getD}
 use Rattle.std.specs.declared.result.Result.{Result}
@@ -57,11 +59,15 @@ count v = how-many (has v) 256
 abbrev pub set-reported : Members → ℕ → Member → Result Members ℕ
 set-reported v s r = cond (ltb 15 s) (Err 1) (cond (ltb 255 (r .0)) (Err 2) (Ok (alone (r .0))))
 
+abbrev pub Unites : Members → Members → Members → Type 0
+Unites a b c = (m : ℕ) → has c m ≡ (has a m || has b m)
+
+abbrev pub Only : Bool → ℕ → Members → Type 0
+Only taken n c = (m : ℕ) → has c m ≡ (taken && eqb m n)
+
 pub record Subsets : Type 0 where
   -- sets with the same members are the same
   pub same : (a b : Members) → ((m : ℕ) → m < 256 → has a m ≡ has b m) → a ≡ b
-  -- any numbers from 0 to 255 make a set
+  -- any numbers from 0 to 255 are the members of a set, and no others ever are
   pub any : (P : ℕ → Bool) (m : ℕ) → has (set-of P) m ≡ (ltb m 256 && P m)
-  pub in-none : (m : ℕ) → has none m ≡ false
-  pub in-alone : (n : ℕ) → n < 256 → (m : ℕ) → has (alone n) m ≡ eqb m n
-  pub in-union : (a b : Members) (m : ℕ) → has (union a b) m ≡ (has a m || has b m)
+  pub below : (v : Members) (m : ℕ) → 256 ≤ m → has v m ≡ false

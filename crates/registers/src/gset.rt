@@ -1,7 +1,9 @@
 // A set of members from 0 to 255 that only grows.
 ghost use mathlib.Core.Path.{_≡_};
+ghost use Rattle.std.specs.Results.{isOk};
+ghost use Rattle.words.specs.Refusals.{numbered, bare, value-or};
 ghost use Rattle.entries.specs.Entries.{row-written, row-reading};
-ghost use Rattle.registers.specs.Members.{Members, members-of, has, none, union, count, set-reported, Subsets};
+ghost use Rattle.registers.specs.Members.{Members, members-of, has, none, union, count, set-reported, Unites, Only, Subsets};
 use crdt::kind::Crdt;
 use entries::kind::EntryKind;
 use entries::load::load;
@@ -70,13 +72,20 @@ pub impl Crdt for GSet as GSetCrdt {
         GSet { bits: [0; 16] }
     }
 
-    fn join(&mut self, other: &GSet) {
+    fn join(&mut self, other: &GSet)
+        ensures value { λ _. ⌜ members-of (now (self .exit) .bits) ≡ union (members-of (now (self .entry) .bits)) (members-of (now (other .entry) .bits)) ⌝ }
+        ensures members { λ _. ⌜ Unites (members-of (now (self .entry) .bits)) (members-of (now (other .entry) .bits)) (members-of (now (self .exit) .bits)) ⌝ }
+    {
         for i in 0..16 {
             self.bits[i] |= other.bits[i];
         }
     }
 
-    fn delta(&self, station: usize, report: Member, into: &mut GSet) -> Result<(), Refusal> {
+    fn delta(&self, station: usize, report: Member, into: &mut GSet) -> Result<(), Refusal>
+        ensures answer { λ r. ⌜ numbered r ≡ bare (set-reported (members-of (now (self .entry) .bits)) station report) ⌝ }
+        ensures into { λ _. ⌜ members-of (now (into .exit) .bits) ≡ value-or none (set-reported (members-of (now (self .entry) .bits)) station report) ⌝ }
+        ensures members { λ r. ⌜ Only (isOk r) (report .0) (members-of (now (into .exit) .bits)) ⌝ }
+    {
         into.bits = [0; 16];
         if station > 15 {
             return Err(Refusal::Station);
