@@ -6,11 +6,11 @@ use mathlib.Core.Logic.{_⊎_, inl, inr, ⊎-elim}
 use Prim.Native.Nat.{ℕ, zero, suc, _+_, _-_, _*_, _/_, _%_, _^_, _≤_, _<_}
 use native.Mathlib.Nat.{zero-add, add-zero}
 use native.Mathlib.Omega.{arith}
-use lib.Dec.{leb, eqb}
+use lib.Dec.{leb, eqb, lit<}
 use lib.ListN.{length, getD, take, drop, replicate}
 use Rattle.std.specs.declared.result.Result.{Result}
 use Rattle.std.specs.declared.result.Result.the-variants.{Ok, Err}
-use Rattle.std.proofs.shelf.Lists.{append-nil, length-append, length-take-le, length-take, length-drop, take-append-drop, take-append-le, drop-append-le, drop-drop, take-at, drop-at, take-all, take-take, drop-take, length-replicate, drop-replicate}
+use Rattle.std.proofs.shelf.Lists.{append-nil, length-append, length-take-le, length-take, length-drop, take-append-drop, take-append-le, drop-append-le, drop-drop, take-at, drop-at, take-all, take-take, drop-take, length-replicate, drop-replicate, getD-take}
 use Rattle.std.proofs.shelf.Parts.{between-to-end}
 use Rattle.std.proofs.shelf.Tests.{and-parts, and-from, eq-eqb, ne-eqb, eqb-true, leb-true, le-leb, false≢true, cases-eq}
 use Rattle.words.specs.Words.{kind, formed, zero-run}
@@ -18,7 +18,7 @@ use Rattle.words.specs.Writes.{put}
 use Rattle.words.specs.Readings.{Told}
 use Rattle.mailboxes.specs.Mailboxes.{sized}
 use Rattle.layouts.specs.Rows.{head, sized-from}
-use Rattle.layouts.specs.Pages.{le-bytes, bytes-of, word-at, page-of, page-length, page-closed}
+use Rattle.layouts.specs.Pages.{le-bytes, be-bytes, bytes-of, word-at, page-of, page-length, page-closed}
 use Rattle.layouts.specs.Mounts.{all-zero, well, full, wrong, page-check, mount-next, mount-pages, paged, mount-check, pages-sound, whole}
 use Rattle.layouts.proofs.PageBytes.{length-bytes-of, length-page-of, page-head, page-size}
 
@@ -184,6 +184,18 @@ sound-held n zero bs e = omega arith
 sound-held zero (suc held) bs e = absurd (false≢true e)
 sound-held (suc n) (suc held) bs e = let h = sound-held n held (drop 512 bs) (and-parts (full (take 512 bs)) (pages-sound n held (drop 512 bs)) e .1) in omega arith
 
+pub sound-at : (n held k : ℕ) (bs : List ℕ) → k < held → pages-sound n held bs ≡ true → full (take 512 (drop (512 * k) bs)) ≡ true
+sound-at n zero k bs h e = absurd (omega arith)
+sound-at zero (suc held) k bs h e = absurd (false≢true e)
+sound-at (suc n) (suc held) zero bs h e = and-parts (full (take 512 bs)) (pages-sound n held (drop 512 bs)) e .0
+sound-at (suc n) (suc held) (suc k) bs h e =
+    let j : 512 * suc k ≡ 512 + 512 * k = omega arith in
+    let p = and-parts (full (take 512 bs)) (pages-sound n held (drop 512 bs)) e in
+    ap (λ x. full (take 512 x)) (ap (λ x. drop x bs) j ∙ sym (drop-drop (512 * k) 512 bs)) ∙ sound-at n held k (drop 512 bs) (omega arith) (p .1)
+
+pub length-put : (bs x : List ℕ) (a : ℕ) → a + length x ≤ length bs → length (put bs a x) ≡ length bs
+length-put bs x a h = simp (length-append, length-take, length-drop) (omega arith)
+
 -- what a page is, by the four tests of its check: a zero head, zero bytes, the kind, and the form
 module _ (at : ℕ) (seen : Bool) (page : List ℕ) where
   pub check-empty : all-zero page ≡ true → page-check at seen page ≡ Ok false
@@ -319,3 +331,38 @@ accepts pages held bs ne w e =
     let d : length bs / 512 ≡ pages = omega arith in
     let g : paged (length bs) ≡ true = paged-from (length bs) (λ z. ne (omega arith)) (omega (arith, p .1)) (omega arith) in
     (ap (λ x. cond x (mount-pages (length bs / 512) 0 0 false bs) (Err (wrong 16 0))) g ∙ ap (λ x. mount-pages x 0 0 false bs) d ∙ mounts-sound pages held 0 0 bs e ∙ ap Ok (zero-add held), d)
+
+-- a page head in the other byte order
+module _ (bs : List ℕ) (n : ℕ) (few : 1 ≤ n) (most : n ≤ 127) (is : take 4 bs ≡ be-bytes (head n)) where
+  foreign-byte : (i : ℕ) → i < 4 → getD (take 512 bs) i 0 ≡ getD (be-bytes (head n)) i 0
+  foreign-byte i h = getD-take 512 bs i 0 (omega arith) ∙ sym (getD-take 4 bs i 0 h) ∙ ap (λ x. getD x i 0) is
+
+  foreign-word : word-at (take 512 bs) 0 ≡ 240 + n * 2 ^ 24
+  foreign-word =
+      let a : getD (take 512 bs) 0 0 ≡ head n / 2 ^ 24 % 256 = foreign-byte 0 (lit< tt) in
+      let b : getD (take 512 bs) 1 0 ≡ head n / 2 ^ 16 % 256 = foreign-byte 1 (lit< tt) in
+      let c : getD (take 512 bs) 2 0 ≡ head n / 2 ^ 8 % 256 = foreign-byte 2 (lit< tt) in
+      let d : getD (take 512 bs) 3 0 ≡ head n % 256 = foreign-byte 3 (lit< tt) in
+      let w = digits n most in
+      omega (arith, a, b, c, d, w)
+    where
+    digits : (n : ℕ) → n ≤ 127 → (head n / 2 ^ 24 % 256 ≡ 240) × (head n / 2 ^ 16 % 256 ≡ 0) × (head n / 2 ^ 8 % 256 ≡ 0) × (head n % 256 ≡ n)
+    digits n h = (omega arith, omega arith, omega arith, omega arith)
+
+  foreign-page : page-check 0 false (take 512 bs) ≡ Err (wrong 10 0)
+  foreign-page =
+      let w = foreign-word in
+      let nz : word-at (take 512 bs) 0 ≡ 0 → ⊥ = λ z. omega (arith, w, z) in
+      let k : kind (word-at (take 512 bs) 0) ≡ 15 → ⊥ = λ z. not-head n most (sym (ap kind w) ∙ z) in
+      rw (ne-eqb (word-at (take 512 bs) 0) 0 nz, ne-eqb (kind (word-at (take 512 bs) 0)) 15 k) refl
+    where
+    not-head : (n : ℕ) → n ≤ 127 → kind (240 + n * 2 ^ 24) ≡ 15 → ⊥
+    not-head n h e = omega arith
+
+  pub foreign-refused : paged (length bs) ≡ true → mount-check bs ≡ Err (wrong 10 0)
+  foreign-refused g =
+      let p = paged-parts (length bs) g in
+      let j : length bs / 512 ≡ suc (length bs / 512 - 1) = omega (arith, p .0, p .2) in
+      ap (λ x. cond x (mount-pages (length bs / 512) 0 0 false bs) (Err (wrong 16 0))) g
+        ∙ ap (λ x. mount-pages x 0 0 false bs) j
+        ∙ ap (λ r. mount-next r (mount-pages (length bs / 512 - 1) (0 + 512) (0 + 1) false (drop 512 bs)) (mount-pages (length bs / 512 - 1) (0 + 512) 0 true (drop 512 bs))) foreign-page

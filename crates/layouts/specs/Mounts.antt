@@ -7,13 +7,15 @@
 --     mount-pages n place held seen bs   what n pages from a place on are, where held messages came before them
 --     paged n                n bytes are 1 to 128 whole pages
 --     mount-check bs         what the check of bytes answers: how many messages wait in them, or what is wrong
+--     Foreign-refused bs r   where bytes begin with a page head of any message in the other byte order, r is 10 at byte 0
 --     mounted-pages r n      how many pages may be used of n bytes, where their check answered r
 --     wiped bs               what a wipe leaves of bytes
 --     pages-sound n held bs  n pages: held of messages, and then zero bytes
 --     whole pages n          pages are none, or those that n bytes are
 use mathlib.Core.List.{List, [], _∷_}
 use mathlib.Core.Bool.{Bool, true, false, cond, not, _||_, _&&_}
-use Prim.Native.Nat.{ℕ, zero, suc, _+_, _*_, _/_, _%_}
+use mathlib.Core.Path.{_≡_}
+use Prim.Native.Nat.{ℕ, zero, suc, _+_, _*_, _/_, _%_, _≤_}
 use lib.Dec.{leb, eqb}
 use lib.ListN.{length, take, drop, replicate}
 use Rattle.std.specs.declared.result.Result.{Result}
@@ -22,7 +24,9 @@ use Rattle.words.specs.declared.fault.Layer.the-variants.{Mailbox}
 use Rattle.words.specs.Words.{kind, formed}
 use Rattle.words.specs.Readings.{Told}
 use Rattle.mailboxes.specs.Mailboxes.{sized}
-use Rattle.layouts.specs.Pages.{word-at, page-length}
+use Rattle.words.specs.Writes.{most}
+use Rattle.layouts.specs.Rows.{head}
+use Rattle.layouts.specs.Pages.{be-bytes, word-at, page-length}
 
 abbrev pub all-zero : List ℕ → Bool
 all-zero [] = true
@@ -58,6 +62,9 @@ paged n = not (eqb n 0) && (leb n 65536 && eqb (n % 512) 0)
 
 abbrev pub mount-check : List ℕ → Result ℕ Told
 mount-check bs = cond (paged (length bs)) (mount-pages (length bs / 512) 0 0 false bs) (Err (wrong 16 0))
+
+abbrev pub Foreign-refused : List ℕ → Result ℕ Told → Type 0
+Foreign-refused bs r = (n : ℕ) → 1 ≤ n → n ≤ most → paged (length bs) ≡ true → take 4 bs ≡ be-bytes (head n) → r ≡ Err (wrong 10 0)
 
 abbrev pub mounted-pages : Result ℕ Told → ℕ → ℕ
 mounted-pages (Ok held) n = n / 512

@@ -1,5 +1,6 @@
 -- How messages lie in pages of 512 bytes. Assumes nothing.
 --     le-bytes w           the bytes of a word, the lowest first
+--     be-bytes w           the bytes of a word, the highest first
 --     bytes-of ws          the bytes of words
 --     word-at bs p         the word whose lowest byte is byte p
 --     words-of n bs        the first n words of bytes
@@ -21,6 +22,9 @@ use Rattle.layouts.specs.Rows.{head}
 
 abbrev pub le-bytes : ℕ → List ℕ
 le-bytes w = (w % 256) ∷ (w / 2 ^ 8 % 256) ∷ (w / 2 ^ 16 % 256) ∷ (w / 2 ^ 24 % 256) ∷ []
+
+abbrev pub be-bytes : ℕ → List ℕ
+be-bytes w = (w / 2 ^ 24 % 256) ∷ (w / 2 ^ 16 % 256) ∷ (w / 2 ^ 8 % 256) ∷ (w % 256) ∷ []
 
 abbrev pub bytes-of : List ℕ → List ℕ
 bytes-of [] = []
