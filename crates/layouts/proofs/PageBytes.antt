@@ -34,8 +34,8 @@ pack-more h m page w i a k lh li lm ea ek ep ew =
     let z : drop k (drop a page) ≡ replicate (508 - 4 * (i + 1)) 0 = ap (drop k) d ∙ drop-replicate k (508 - 4 * i) 0 ∙ ap (λ x. replicate x 0) f in
     let n : bytes-of (take (i + 1) m) ≡ b ++ le-bytes (getD m i 0) = ap bytes-of (take-more m i 0 li) ∙ bytes-of-append (take i m) (getD m i 0 ∷ []) ∙ ap (λ x. b ++ x) (append-nil (le-bytes (getD m i 0))) in
     ap (λ x. x ++ (w ++ drop k (drop a page))) t ∙ ap (λ x. (h ++ b) ++ (x ++ drop k (drop a page))) ew ∙ ap (λ x. (h ++ b) ++ (le-bytes (getD m i 0) ++ x)) z
-      ∙ append-assoc h b (le-bytes (getD m i 0) ++ replicate (508 - 4 * (i + 1)) 0)
-      ∙ ap (λ x. h ++ x) (sym (append-assoc b (le-bytes (getD m i 0)) (replicate (508 - 4 * (i + 1)) 0)) ∙ ap (λ x. x ++ replicate (508 - 4 * (i + 1)) 0) (sym n))
+    ∙ append-assoc h b (le-bytes (getD m i 0) ++ replicate (508 - 4 * (i + 1)) 0)
+    ∙ ap (λ x. h ++ x) (sym (append-assoc b (le-bytes (getD m i 0)) (replicate (508 - 4 * (i + 1)) 0)) ∙ ap (λ x. x ++ replicate (508 - 4 * (i + 1)) 0) (sym n))
 
 pub length-packed : (h m : List ℕ) (i : ℕ) → length h ≡ 4 → i ≤ length m → length m ≤ 127 → length (h ++ (bytes-of (take i m) ++ replicate (508 - 4 * i) 0)) ≡ 512
 length-packed h m i lh li lm =
@@ -59,10 +59,11 @@ word-back w h =
     let h4 : w / 256 / 256 / 256 % 256 ≡ w / 256 / 256 / 256 = last-digit w h in
     rw (eb, ed) (joined-digits w (w / 256) (w / 256 / 256) (w / 256 / 256 / 256) (w % 256) (w / 256 % 256) (w / 256 / 256 % 256) (w / 256 / 256 / 256 % 256) h1 h2 h3 h4)
   where
-  joined-digits : (w a b d p q r s : ℕ) → w ≡ 256 * a + p → a ≡ 256 * b + q → b ≡ 256 * d + r → s ≡ d → p + q * 256 + r * 65536 + s * 16777216 ≡ w
-  joined-digits w a b d p q r s h1 h2 h3 h4 = omega arith
-  last-digit : (w : ℕ) → w < 2 ^ 32 → w / 256 / 256 / 256 % 256 ≡ w / 256 / 256 / 256
-  last-digit w h = let lt : w / 256 / 256 / 256 < 256 = omega arith in omega arith
+    joined-digits : (w a b d p q r s : ℕ) → w ≡ 256 * a + p → a ≡ 256 * b + q → b ≡ 256 * d + r → s ≡ d → p + q * 256 + r * 65536 + s * 16777216 ≡ w
+    joined-digits w a b d p q r s h1 h2 h3 h4 = omega arith
+
+    last-digit : (w : ℕ) → w < 2 ^ 32 → w / 256 / 256 / 256 % 256 ≡ w / 256 / 256 / 256
+    last-digit w h = let lt : w / 256 / 256 / 256 < 256 = omega arith in omega arith
 
 pub words-back : (m rest : List ℕ) → ((i : ℕ) → getD m i 0 < 2 ^ 32) → words-of (length m) (bytes-of m ++ rest) ≡ m
 words-back [] rest h = refl
@@ -72,14 +73,14 @@ words-back (w ∷ m) rest h = ap (λ x. x ∷ words-of (length m) (bytes-of m ++
 pub page-head : (m : List ℕ) → length m ≤ 127 → word-at (page-of m) 0 ≡ head (length m)
 page-head m b = word-back (head (length m)) (below (length m) b)
   where
-  below : (n : ℕ) → n ≤ 127 → head n < 2 ^ 32
-  below n h = omega arith
+    below : (n : ℕ) → n ≤ 127 → head n < 2 ^ 32
+    below n h = omega arith
 
 pub page-size : (m : List ℕ) → length m ≤ 127 → page-length (page-of m) ≡ length m
 page-size m b = ap (λ x. x % 256) (page-head m b) ∙ low (length m) b
   where
-  low : (n : ℕ) → n ≤ 127 → head n % 256 ≡ n
-  low n h = omega arith
+    low : (n : ℕ) → n ≤ 127 → head n % 256 ≡ n
+    low n h = omega arith
 
 pub page-back : (m : List ℕ) → length m ≤ 127 → ((i : ℕ) → getD m i 0 < 2 ^ 32) → page-message (page-of m) ≡ m
 page-back m b h =
@@ -107,9 +108,9 @@ take-add : (j n : ℕ) (xs : List ℕ) → take (j + n) xs ≡ take j xs ++ take
 take-add zero n xs = ap (λ x. take x xs) (zero-add n)
 take-add (suc j) n [] = take-nil (suc j + n) ∙ sym (take-nil n)
   where
-  take-nil : (k : ℕ) → take {A = ℕ} k [] ≡ []
-  take-nil zero = refl
-  take-nil (suc k) = refl
+    take-nil : (k : ℕ) → take {A = ℕ} k [] ≡ []
+    take-nil zero = refl
+    take-nil (suc k) = refl
 take-add (suc j) n (x ∷ xs) = let e : suc j + n ≡ suc (j + n) = omega arith in ap (λ k. take k (x ∷ xs)) e ∙ ap (λ r. x ∷ r) (take-add j n xs)
 
 pub paste-cut : (d : List ℕ) (at : ℕ) (s : List ℕ) (n : ℕ) → paste d at (take n s) n ≡ paste d at s n
@@ -119,7 +120,7 @@ drop-past-paste : (d : List ℕ) (at : ℕ) (s : List ℕ) (n q : ℕ) → at + 
 drop-past-paste d at s n q h l r =
     let e : at + n + (q - (at + n)) ≡ q = omega arith in
     ap (λ x. drop x (paste d at s n)) (sym e) ∙ sym (drop-drop (q - (at + n)) (at + n) (paste d at s n))
-      ∙ ap (drop (q - (at + n))) (drop-paste d at s n l r) ∙ drop-drop (q - (at + n)) (at + n) d ∙ ap (λ x. drop x d) e
+    ∙ ap (drop (q - (at + n))) (drop-paste d at s n l r) ∙ drop-drop (q - (at + n)) (at + n) d ∙ ap (λ x. drop x d) e
 
 -- one block more moved down, from `from` to `to`
 pub move-block : (b now new : List ℕ) (to from j n : ℕ) → to ≤ from → from + j + n ≤ length b → now ≡ paste b to (drop from b) j → new ≡ paste now (to + j) (drop (from + j) now) n → new ≡ paste b to (drop from b) (j + n)
@@ -131,7 +132,7 @@ move-block b now new to from j n h l e f =
     let q : drop (from + j) p ≡ drop j d = drop-past-paste b to d j (from + j) (omega arith) (omega arith) ld ∙ sym (drop-drop j from b) in
     let r : drop (to + j + n) p ≡ drop (to + (j + n)) b = drop-past-paste b to d j (to + j + n) (omega arith) (omega arith) ld ∙ ap (λ x. drop x b) (add-assoc to j n) in
     f ∙ ap (λ x. paste x (to + j) (drop (from + j) x) n) e
-      ∙ ap (λ x. (take (to + j) p ++ take n x) ++ drop (to + j + n) p) q
-      ∙ ap (λ x. (x ++ take n (drop j d)) ++ drop (to + j + n) p) t
-      ∙ ap (λ x. ((take to b ++ take j d) ++ take n (drop j d)) ++ x) r
-      ∙ ap (λ x. x ++ drop (to + (j + n)) b) (append-assoc (take to b) (take j d) (take n (drop j d)) ∙ ap (λ x. take to b ++ x) (sym (take-add j n d)))
+    ∙ ap (λ x. (take (to + j) p ++ take n x) ++ drop (to + j + n) p) q
+    ∙ ap (λ x. (x ++ take n (drop j d)) ++ drop (to + j + n) p) t
+    ∙ ap (λ x. ((take to b ++ take j d) ++ take n (drop j d)) ++ x) r
+    ∙ ap (λ x. x ++ drop (to + (j + n)) b) (append-assoc (take to b) (take j d) (take n (drop j d)) ∙ ap (λ x. take to b ++ x) (sym (take-add j n d)))

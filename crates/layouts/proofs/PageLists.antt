@@ -29,7 +29,7 @@ pages-add (suc n) m bs =
     let e : suc n + m ≡ suc (n + m) = omega arith in
     let f : 512 + 512 * n ≡ 512 * suc n = omega arith in
     ap (λ x. pages-of x bs) e
-      ∙ ap (λ x. page-message (take 512 bs) ∷ x) (pages-add n m (drop 512 bs) ∙ ap (λ x. pages-of n (drop 512 bs) ++ pages-of m x) (drop-drop (512 * n) 512 bs ∙ ap (λ x. drop x bs) f))
+    ∙ ap (λ x. page-message (take 512 bs) ∷ x) (pages-add n m (drop 512 bs) ∙ ap (λ x. pages-of n (drop 512 bs) ++ pages-of m x) (drop-drop (512 * n) 512 bs ∙ ap (λ x. drop x bs) f))
 
 -- what lies past the pages does not matter
 pub pages-front : (n : ℕ) (xs ys : List ℕ) → 512 * n ≤ length xs → pages-of n (xs ++ ys) ≡ pages-of n xs
@@ -38,7 +38,7 @@ pages-front (suc n) xs ys h =
     let l : 512 ≤ length xs = omega arith in
     let r : 512 * n ≤ length (drop 512 xs) = simp length-drop (omega arith) in
     ap (λ x. page-message x ∷ pages-of n (drop 512 (xs ++ ys))) (take-append-le 512 xs ys l)
-      ∙ ap (λ x. page-message (take 512 xs) ∷ x) (ap (pages-of n) (drop-append-le 512 xs ys l) ∙ pages-front n (drop 512 xs) ys r)
+    ∙ ap (λ x. page-message (take 512 xs) ∷ x) (ap (pages-of n) (drop-append-le 512 xs ys l) ∙ pages-front n (drop 512 xs) ys r)
 
 pub pages-take : (n j : ℕ) (bs : List ℕ) → 512 * n ≤ j → j ≤ length bs → pages-of n (take j bs) ≡ pages-of n bs
 pages-take n j bs h l =
@@ -66,9 +66,9 @@ put-pages held m bs room l back =
     let new : paste bs (512 * held) p 512 ≡ a ++ (p ++ r) = ap (λ x. (a ++ x) ++ r) tp ∙ append-assoc a p r in
     let one : pages-of 1 (p ++ r) ≡ m ∷ [] = ap (λ x. page-message x ∷ []) (take-at p r 512 l) ∙ ap (λ x. x ∷ []) back in
     ap (pages-of (held + 1)) new ∙ pages-add held 1 (a ++ (p ++ r))
-      ∙ ap (λ x. x ++ pages-of 1 (drop (512 * held) (a ++ (p ++ r)))) (pages-front held a (p ++ r) (omega arith) ∙ pages-take held (512 * held) bs (omega arith) (omega arith))
-      ∙ ap (λ x. pages-of held bs ++ pages-of 1 x) (drop-at a (p ++ r) (512 * held) la)
-      ∙ ap (λ x. pages-of held bs ++ x) one
+    ∙ ap (λ x. x ++ pages-of 1 (drop (512 * held) (a ++ (p ++ r)))) (pages-front held a (p ++ r) (omega arith) ∙ pages-take held (512 * held) bs (omega arith) (omega arith))
+    ∙ ap (λ x. pages-of held bs ++ pages-of 1 x) (drop-at a (p ++ r) (512 * held) la)
+    ∙ ap (λ x. pages-of held bs ++ x) one
 
 -- taking and dropping messages
 pub take-pages : (n k : ℕ) (bs : List ℕ) → k ≤ n → take k (pages-of n bs) ≡ pages-of k bs
@@ -101,22 +101,23 @@ closed-pages k held bs h l =
     let la : length a ≡ 512 * k = length-take-le (512 * k) bs (omega arith) in
     let lb : length b ≡ j = length-take-le j d ld in
     let t : take (512 * (held - 1)) (moved-down k held bs) ≡ a ++ b =
-          take-at-paste one (512 * (held - 1)) (replicate 512 0) 512 (omega arith) ∙ ap (λ x. take x one) e ∙ take-paste bs (512 * k) d j (omega arith) ld in
+    take-at-paste one (512 * (held - 1)) (replicate 512 0) 512 (omega arith) ∙ ap (λ x. take x one) e ∙ take-paste bs (512 * k) d j (omega arith) ld in
     let lc : length (moved-down k held bs) ≡ length one = length-paste one (512 * (held - 1)) (replicate 512 0) 512 (omega arith) (omega (arith, length-replicate {A = ℕ} 512 0)) in
     let n : held - 1 ≡ k + (held - (k + 1)) = omega arith in
     sym (pages-take (held - 1) (512 * (held - 1)) (moved-down k held bs) (omega arith) (omega arith))
-      ∙ ap (pages-of (held - 1)) t
-      ∙ ap (λ x. pages-of x (a ++ b)) n
-      ∙ pages-add k (held - (k + 1)) (a ++ b)
-      ∙ ap (λ x. x ++ pages-of (held - (k + 1)) (drop (512 * k) (a ++ b))) (pages-front k a b (omega arith) ∙ pages-take k (512 * k) bs (omega arith) (omega arith))
-      ∙ ap (λ x. pages-of k bs ++ pages-of (held - (k + 1)) x) (drop-at a b (512 * k) la)
-      ∙ ap (λ x. pages-of k bs ++ x) (pages-take (held - (k + 1)) j d (omega arith) ld ∙ tail)
-      ∙ ap (λ x. x ++ drop (suc k) (pages-of held bs)) (sym (take-pages held k bs (omega arith)))
+    ∙ ap (pages-of (held - 1)) t
+    ∙ ap (λ x. pages-of x (a ++ b)) n
+    ∙ pages-add k (held - (k + 1)) (a ++ b)
+    ∙ ap (λ x. x ++ pages-of (held - (k + 1)) (drop (512 * k) (a ++ b))) (pages-front k a b (omega arith) ∙ pages-take k (512 * k) bs (omega arith) (omega arith))
+    ∙ ap (λ x. pages-of k bs ++ pages-of (held - (k + 1)) x) (drop-at a b (512 * k) la)
+    ∙ ap (λ x. pages-of k bs ++ x) (pages-take (held - (k + 1)) j d (omega arith) ld ∙ tail)
+    ∙ ap (λ x. x ++ drop (suc k) (pages-of held bs)) (sym (take-pages held k bs (omega arith)))
   where
-  tail : pages-of (held - (k + 1)) (drop (512 * (k + 1)) bs) ≡ drop (suc k) (pages-of held bs)
-  tail = ap (λ x. pages-of (held - x) (drop (512 * x) bs)) (add-one k) ∙ sym (drop-pages held (suc k) bs)
-  take-at-paste : (d : List ℕ) (at : ℕ) (s : List ℕ) (n : ℕ) → at ≤ length d → take at (paste d at s n) ≡ take at d
-  take-at-paste d at s n g = ap (take at) (append-assoc (take at d) (take n s) (drop (at + n) d)) ∙ take-at (take at d) (take n s ++ drop (at + n) d) at (length-take-le at d g)
+    tail : pages-of (held - (k + 1)) (drop (512 * (k + 1)) bs) ≡ drop (suc k) (pages-of held bs)
+    tail = ap (λ x. pages-of (held - x) (drop (512 * x) bs)) (add-one k) ∙ sym (drop-pages held (suc k) bs)
+
+    take-at-paste : (d : List ℕ) (at : ℕ) (s : List ℕ) (n : ℕ) → at ≤ length d → take at (paste d at s n) ≡ take at d
+    take-at-paste d at s n g = ap (take at) (append-assoc (take at d) (take n s) (drop (at + n) d)) ∙ take-at (take at d) (take n s ++ drop (at + n) d) at (length-take-le at d g)
 
 pub length-closed : (k held : ℕ) (bs : List ℕ) → k < held → 512 * held ≤ length bs → length (moved-down k held bs) ≡ length bs
 length-closed k held bs h l =
@@ -133,4 +134,4 @@ moved-down-is k held bs h l =
     let ld : j ≤ length d = simp length-drop (omega arith) in
     let one : paste bs (512 * k) d j ≡ put bs (512 * k) (take j d) = paste-put bs (512 * k) d (take j d) j refl (sym (length-take-le j d ld)) in
     paste-put (paste bs (512 * k) d j) (512 * (held - 1)) (replicate 512 0) (replicate 512 0) 512 (take-all 512 (replicate 512 0) (omega (arith, length-replicate {A = ℕ} 512 0))) (sym (length-replicate {A = ℕ} 512 0))
-      ∙ ap (λ x. put x (512 * (held - 1)) (replicate 512 0)) one
+    ∙ ap (λ x. put x (512 * (held - 1)) (replicate 512 0)) one

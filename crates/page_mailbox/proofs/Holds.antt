@@ -57,15 +57,16 @@ module _ (t : PageMailbox) where
     put-long = ap length is ∙ Mounts.length-put (memory-of t) (page-of m) (512 * t .held) (omega (arith, page-long, page-room))
 
     pub put-ok : (pages-sound (t .pages) (t .held + 1) new ≡ true) × (whole (t .pages) (length new) ≡ true)
-    put-ok =
-        (ap (λ x. pages-sound (t .pages) x new) (add-one (t .held)) ∙ ap (pages-sound (t .pages) _) is
-           ∙ Mounts.sound-put (t .held) (t .pages) (memory-of t) (page-of m) page-long (Mounts.page-full m few most) (takes-room (length m) fits) (room .0) (t .ok .0),
-         ap (whole (t .pages)) put-long ∙ t .ok .1)
+    put-ok = (
+      ap (λ x. pages-sound (t .pages) x new) (add-one (t .held)) ∙ ap (pages-sound (t .pages) _) is
+          ∙ Mounts.sound-put (t .held) (t .pages) (memory-of t) (page-of m) page-long (Mounts.page-full m few most) (takes-room (length m) fits) (room .0) (t .ok .0),
+      ap (whole (t .pages)) put-long ∙ t .ok .1,
+    )
 
     pub put-waiting : pages-of (t .held + 1) new ≡ waiting-of t ++ (m ∷ [])
     put-waiting =
         ap (pages-of (t .held + 1)) (is ∙ sym (paste-put (memory-of t) (512 * t .held) (page-of m) (page-of m) 512 (take-all 512 (page-of m) (omega (arith, page-long))) (sym page-long)))
-          ∙ put-pages (t .held) m (memory-of t) page-room page-long (page-back m most words)
+        ∙ put-pages (t .held) m (memory-of t) page-room page-long (page-back m most words)
 
     pub put-memory : new ≡ page-put (takes-of t (length m)) (waiting-of t) m (memory-of t)
     put-memory = is ∙ ap (λ x. put (memory-of t) (512 * x) (page-of m)) (sym waiting-long) ∙ sym (cond-true (takes-of t (length m)) (put (memory-of t) (512 * length (waiting-of t)) (page-of m)) (memory-of t) fits)
@@ -77,9 +78,10 @@ module _ (t : PageMailbox) where
 
     pub close-ok : (pages-sound (t .pages) (t .held - 1) new ≡ true) × (whole (t .pages) (length new) ≡ true)
     close-ok =
-        let l : length new ≡ length (memory-of t) = ap length (is ∙ sym (moved-down-is k (t .held) (memory-of t) below used-room)) ∙ length-closed k (t .held) (memory-of t) below used-room in
-        (ap (pages-sound (t .pages) (t .held - 1)) is ∙ Mounts.sound-closed k (t .held) (t .pages) (memory-of t) below held-few (room .0) (t .ok .0),
-         ap (whole (t .pages)) l ∙ t .ok .1)
+        let l : length new ≡ length (memory-of t) = ap length (is ∙ sym (moved-down-is k (t .held) (memory-of t) below used-room)) ∙ length-closed k (t .held) (memory-of t) below used-room in (
+          ap (pages-sound (t .pages) (t .held - 1)) is ∙ Mounts.sound-closed k (t .held) (t .pages) (memory-of t) below held-few (room .0) (t .ok .0),
+          ap (whole (t .pages)) l ∙ t .ok .1,
+        )
 
     pub close-waiting : pages-of (t .held - 1) new ≡ removed (waiting-of t) k
     close-waiting = ap (pages-of (t .held - 1)) (is ∙ sym (moved-down-is k (t .held) (memory-of t) below used-room)) ∙ closed-pages k (t .held) (memory-of t) below used-room
@@ -87,7 +89,7 @@ module _ (t : PageMailbox) where
     pub close-memory : new ≡ page-discard (waiting-of t) k (memory-of t)
     close-memory =
         is ∙ ap (λ x. page-closed k x (memory-of t)) (sym waiting-long)
-          ∙ sym (cond-true (ltb k (counted (waiting-of t))) (page-closed k (length (waiting-of t)) (memory-of t)) (memory-of t) (lt-ltb k (counted (waiting-of t)) (omega (arith, held-is))))
+        ∙ sym (cond-true (ltb k (counted (waiting-of t))) (page-closed k (length (waiting-of t)) (memory-of t)) (memory-of t) (lt-ltb k (counted (waiting-of t)) (omega (arith, held-is))))
 
   pub discard-none : (k : ℕ) → t .held ≤ k → memory-of t ≡ page-discard (waiting-of t) k (memory-of t)
   discard-none k h = rw (le-ltb k (counted (waiting-of t)) (omega (arith, held-is))) refl

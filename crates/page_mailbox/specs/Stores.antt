@@ -21,6 +21,6 @@ takes-of t n = page-takes (t .pages) (waiting-of t) n
 
 pub kept : Lawful waiting-of takes-of
 kept = record {
-    messages = λ t. sound-messages (t .pages) (t .held) (memory-of t) (t .ok .0);
-    sizes = λ t n. page-sizes (t .pages) (waiting-of t) n;
-  }
+  messages = λ t. sound-messages (t .pages) (t .held) (memory-of t) (t .ok .0);
+  sizes = λ t n. page-sizes (t .pages) (waiting-of t) n;
+}

@@ -28,7 +28,10 @@ pub(crate) fn word_at(bytes: &[u8], p: usize) -> u32
     requires { ⌜ p + 4 ≤ length (now bytes) ⌝ }
     ensures { λ r. ⌜ r ≡ word-at (now (bytes .entry)) p ⌝ }
 {
-    bytes[p] as u32 + bytes[p + 1] as u32 * 0x100 + bytes[p + 2] as u32 * 0x1_0000 + bytes[p + 3] as u32 * 0x100_0000
+    bytes[p] as u32
+        + bytes[p + 1] as u32 * 0x100
+        + bytes[p + 2] as u32 * 0x1_0000
+        + bytes[p + 3] as u32 * 0x100_0000
 }
 
 // Whether every byte is zero.

@@ -42,7 +42,11 @@ fn check_page(page: &[u8], place: usize, seen: bool) -> Result<bool, Fault>
 {
     let head = Word(word_at(page, 0));
     if head.0 == 0 {
-        return if is_zero(page) { Ok(false) } else { Err(fault(Refusal::Form, place)) };
+        return if is_zero(page) {
+            Ok(false)
+        } else {
+            Err(fault(Refusal::Form, place))
+        };
     }
     if !head.is(WordKind::PageHead) {
         return Err(fault(Refusal::Kind, place));
@@ -55,6 +59,17 @@ fn check_page(page: &[u8], place: usize, seen: bool) -> Result<bool, Fault>
         Ok(true)
     } else {
         Err(fault(Refusal::Form, place))
+    }
+}
+
+// How many pages are in use and how many are held, by what the check of so many bytes answered.
+fn extent(found: Result<usize, Fault>, size: usize) -> (usize, usize)
+    ensures pages { λ r. ⌜ r .0 ≡ mounted-pages (told found) size ⌝ }
+    ensures held { λ r. ⌜ r .1 ≡ value-or 0 (told found) ⌝ }
+{
+    match found {
+        Ok(held) => (size / PAGE, held),
+        Err(_) => (0, 0),
     }
 }
 
@@ -111,16 +126,18 @@ impl<'a> PageMailbox<'a> {
         ensures memory { λ r. ⌜ memory-of r ≡ now (bytes .entry) ⌝ }
         ensures lender { λ r. ⌜ name (r .bytes) ≡ name (bytes .entry) ⌝ }
     {
-        match PageMailbox::check(bytes) {
-            Ok(held) => {
-                let pages = bytes.len() / PAGE;
-                PageMailbox { bytes, pages, held }
-            }
-            Err(_) => PageMailbox {
-                bytes,
-                pages: 0,
-                held: 0,
-            },
-        }
+        let (pages, held) = extent(PageMailbox::check(bytes), bytes.len());
+        PageMailbox { bytes, pages, held }
+    }
+
+    // Lets it go, as when power is lost, and mounts the same bytes. A mailbox with pages in use holds the same messages again.
+    pub fn remount(self) -> PageMailbox<'a>
+        ensures memory { λ r. ⌜ memory-of r ≡ memory-of (self .entry) ⌝ }
+        ensures pages { λ r. ⌜ ((self .entry .pages ≡ 0 → ⊥) → r .pages ≡ self .entry .pages) ⌝ }
+        ensures waiting { λ r. ⌜ ((self .entry .pages ≡ 0 → ⊥) → waiting-of r ≡ waiting-of (self .entry)) ⌝ }
+        ensures lender { λ r. ⌜ name (r .bytes) ≡ name (self .entry .bytes) ⌝ }
+    {
+        let PageMailbox { bytes, .. } = self;
+        PageMailbox::mount(bytes)
     }
 }

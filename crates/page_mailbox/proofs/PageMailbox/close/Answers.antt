@@ -68,9 +68,12 @@ loop-i-again c =
     let e2 : 512 * (i + 1) ≡ 512 * (k + 1) + j = omega arith in
     let e3 : j + 512 ≡ 512 * (i + 1 - k) = omega arith in
     let w = c .write .ensures .memory ∙ ap (put now (512 * i)) (c .page-spare .ensures) ∙ put-pasted now (drop (512 * (i + 1)) now) (512 * i) lo in
-    let f = w ∙ ap (λ x. paste now x (drop (512 * (i + 1)) now) 512) e1 ∙ ap (λ x. paste now (512 * k + j) (drop x now) 512) e2 in
-    (move-block b now (c .write .last .self .bytes .now) (512 * k) (512 * (k + 1)) j 512 (omega arith) (omega (arith, c .pre .room)) (c .loop-i .inv .0) f ∙ ap (paste b (512 * k) d) e3,
-     c .write .ensures .pages, c .write .ensures .held, c .write .ensures .lender ∙ c .loop-i .inv .3)
+    let f = w ∙ ap (λ x. paste now x (drop (512 * (i + 1)) now) 512) e1 ∙ ap (λ x. paste now (512 * k + j) (drop x now) 512) e2 in (
+      move-block b now (c .write .last .self .bytes .now) (512 * k) (512 * (k + 1)) j 512 (omega arith) (omega (arith, c .pre .room)) (c .loop-i .inv .0) f ∙ ap (paste b (512 * k) d) e3,
+      c .write .ensures .pages,
+      c .write .ensures .held,
+      c .write .ensures .lender ∙ c .loop-i .inv .3,
+    )
 
 pub returns : need.returns
 returns c =
