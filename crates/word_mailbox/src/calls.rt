@@ -50,7 +50,7 @@ pub impl<'a> Mailbox for WordMailbox<'a> as WordMailboxMailbox {
     ghost lawful = { kept };
 
     fn count(&self) -> u16 {
-        self.held
+        self.held as u16
     }
 
     fn fits(&self, n: usize) -> bool {
@@ -90,7 +90,7 @@ pub impl<'a> Mailbox for WordMailbox<'a> as WordMailboxMailbox {
         if words.len() < 127 {
             return Err(Refusal::Room);
         }
-        if k >= self.held as usize {
+        if k >= self.held {
             return Err(Refusal::Absent);
         }
         let (place, n) = self.find(k);
@@ -105,7 +105,7 @@ pub impl<'a> Mailbox for WordMailbox<'a> as WordMailboxMailbox {
         ensures memory { λ _. ⌜ memory-of (now (self .exit)) ≡ row-discard (waiting-of (now (self .entry))) k (memory-of (now (self .entry))) ⌝ }
         ensures lender { λ _. ⌜ name (now (self .exit) .words) ≡ name (now (self .entry) .words) ⌝ }
     {
-        if k >= self.held as usize {
+        if k >= self.held {
             return Err(Refusal::Absent);
         }
         let (place, n) = self.find(k);
@@ -114,7 +114,7 @@ pub impl<'a> Mailbox for WordMailbox<'a> as WordMailboxMailbox {
         let from = place + 1 + n;
         // Until the later messages have moved, those before message k are held.
         self.used = place;
-        self.held = k as u16;
+        self.held = k;
         for i in from..used {
             self.words[place + (i - from)] = self.words[i];
         }

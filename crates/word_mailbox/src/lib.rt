@@ -15,6 +15,6 @@ pub mod open;
 pub struct WordMailbox<'a> {
     words: &'a mut [u32],
     used: usize,
-    held: u16,
+    held: usize,
     ghost ok: { (used ≤ length (at words)) × (used ≤ 4096) × (sound held (take used (at words)) ≡ true) },
 }
