@@ -1,0 +1,5 @@
+pub mod Calls
+pub mod Rows
+pub mod PageBytes
+pub mod PageLists
+pub mod Mounts
