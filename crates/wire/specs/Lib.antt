@@ -1,0 +1,4 @@
+pub mod Messages
+pub mod Openings
+pub mod Packs
+pub mod Answers
