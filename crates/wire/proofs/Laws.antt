@@ -17,7 +17,7 @@ use Rattle.entries.specs.declared.kind.EntryKind.the-variants as entry
 use Rattle.entries.proofs.Fits.{fits}
 use Rattle.entries.proofs.Scans.{row-reads, row-exact}
 use Rattle.wire.specs.Messages.{Message, full, delta, head-word, headed, packed-by, Sendable-by, Clock, clock-written}
-use Rattle.wire.specs.Openings.{head-found, span-reading, mapped, after-head, head-read, opening-by, with-record, completed, loaded-by, unpacked-by, clock-reading, opening, without-record, record-of, One-to-one}
+use Rattle.wire.specs.Openings.{head-found, span-reading, mapped, full-from, delta-from, after-head, head-read, opening-by, with-record, completed, loaded-by, unpacked-by, clock-reading, opening, without-record, record-of, One-to-one}
 use Rattle.wire.proofs.Heads.{kind-head, index-head, head-is, span-reads, span-exact, found-head, Headed, head-was}
 
 pub mapped-was : {X Y : Type 0} (f : X → Y) (r : Reading X) (y : Y) (more : List ℕ) → mapped f r ≡ read y more → (x : X) × (r ≡ read x more) × (f x ≡ y)
@@ -51,8 +51,8 @@ module _ {C V : Type 0} (wc : C → List ℕ) (rc : List ℕ → Reading C) (wv 
         let h = head-word 1 s n in
         behind-head 1 s ws (found-head 1 s ws (inl refl) refl station (omega arith) (omega arith))
         ∙ cond-true _ _ _ (eq-eqb (kind h) 1 (kind-head 1 s n station (omega arith)))
-        ∙ ap (λ i. mapped (λ x. full i x tt) (rc ws)) (index-head 1 s n station (omega arith))
-        ∙ ap (mapped (λ x. full s x tt)) (c-reads c (wv v))
+        ∙ ap (λ i. mapped (full-from i) (rc ws)) (index-head 1 s n station (omega arith))
+        ∙ ap (mapped (full-from s)) (c-reads c (wv v))
 
     opens-delta : (s f t : ℕ) (v : V) → Sendable-by wc wv (delta s f t v) → opening-by rc (packed-by wc wv (delta s f t v)) ≡ read (delta s f t tt) (wv v)
     opens-delta s f t v ok =
@@ -64,8 +64,8 @@ module _ {C V : Type 0} (wc : C → List ℕ) (rc : List ℕ → Reading C) (wv 
         let is = kind-head 2 s n station (omega arith) in
         behind-head 2 s ws (found-head 2 s ws (inr refl) refl station (omega arith) (omega arith))
         ∙ cond-false _ _ _ (ne-eqb (kind h) 1 (λ (e : kind h ≡ 1). omega arith))
-        ∙ ap (λ i. mapped (λ (x : ℕ × ℕ). delta i (x .0) (x .1) tt) (span-reading ws)) (index-head 2 s n station (omega arith))
-        ∙ ap (mapped (λ (x : ℕ × ℕ). delta s (x .0) (x .1) tt)) (span-reads f t (wv v) (ok .rises .0) (ok .rises .1))
+        ∙ ap (λ i. mapped (delta-from i) (span-reading ws)) (index-head 2 s n station (omega arith))
+        ∙ ap (mapped (delta-from s)) (span-reads f t (wv v) (ok .rises .0) (ok .rises .1))
 
     pub opens : (m : Message C V) → Sendable-by wc wv m → opening-by rc (packed-by wc wv m) ≡ read (without-record m) (wv (record-of m))
     opens (full s c v) ok = opens-full s c v ok
@@ -96,9 +96,9 @@ module _ {C V : Type 0} (wc : C → List ℕ) (rc : List ℕ → Reading C) (wv 
           let n : w % 2 ^ 8 ≡ suc (length body) = omega arith in
           h .words ∙ ap (λ x. x ∷ drop 1 ws) (word ∙ ap (head-word k (index w)) n) ∙ ap (λ xs. head-word k (index w) (suc (length body)) ∷ xs) behind
 
-      full-was : (m : Message C (Unit {0})) (more : List ℕ) → kind w ≡ 1 → mapped (λ c. full (index w) c tt) (rc (drop 1 ws)) ≡ read m more → Opened ws m more
+      full-was : (m : Message C (Unit {0})) (more : List ℕ) → kind w ≡ 1 → mapped (full-from (index w)) (rc (drop 1 ws)) ≡ read m more → Opened ws m more
       full-was m more is e v rest =
-          let p = mapped-was (λ c. full (index w) c tt) (rc (drop 1 ws)) m more e in
+          let p = mapped-was (full-from (index w)) (rc (drop 1 ws)) m more e in
           let c = p .0 in
           let body : drop 1 ws ≡ wc c ++ wv v = c-exact (drop 1 ws) c more (p .1) ∙ ap (λ xs. wc c ++ xs) rest in
           let words : ws ≡ packed-by wc wv (full (index w) c v) = packs 1 (wc c ++ wv v) is (head-is w 1 refl is (h .form)) body in
@@ -106,9 +106,9 @@ module _ {C V : Type 0} (wc : C → List ℕ) (rc : List ℕ → Reading C) (wv 
           let all = ap length words in
           subst (λ x. (ws ≡ packed-by wc wv (with-record x v)) × Sendable-by wc wv (with-record x v)) (p .2) (words, record { few = omega arith; station = omega arith; rises = tt })
 
-      delta-was : (m : Message C (Unit {0})) (more : List ℕ) → kind w ≡ 2 → mapped (λ (s : ℕ × ℕ). delta (index w) (s .0) (s .1) tt) (span-reading (drop 1 ws)) ≡ read m more → Opened ws m more
+      delta-was : (m : Message C (Unit {0})) (more : List ℕ) → kind w ≡ 2 → mapped (delta-from (index w)) (span-reading (drop 1 ws)) ≡ read m more → Opened ws m more
       delta-was m more is e v rest =
-          let p = mapped-was (λ (s : ℕ × ℕ). delta (index w) (s .0) (s .1) tt) (span-reading (drop 1 ws)) m more e in
+          let p = mapped-was (delta-from (index w)) (span-reading (drop 1 ws)) m more e in
           let f = p .0 .0 in
           let t = p .0 .1 in
           let s = span-exact (drop 1 ws) (p .0) more (p .1) in

@@ -2,3 +2,4 @@ pub mod Heads
 pub mod Laws
 pub mod Steps
 pub mod Packs
+pub mod Ways

@@ -58,10 +58,16 @@ abbrev pub mapped : {X Y : Type 0} → (X → Y) → Reading X → Reading Y
 mapped f (read x ws) = read (f x) ws
 mapped f (wrong n ws) = wrong n ws
 
--- what follows the head w: a clock, or the ends of a span
+-- a message from a sender, its record not read yet: by its clock, or by the ends of its span
+abbrev pub full-from : {C : Type 0} → ℕ → C → Message C (Unit {0})
+full-from s c = full s c tt
+
+abbrev pub delta-from : {C : Type 0} → ℕ → ℕ × ℕ → Message C (Unit {0})
+delta-from s p = delta s (p .0) (p .1) tt
+
+-- what follows the head w
 abbrev pub after-head : {C : Type 0} → (List ℕ → Reading C) → ℕ → List ℕ → Reading (Message C (Unit {0}))
-after-head rc w ws =
-    cond (eqb (kind w) 1) (mapped (λ c. full (index w) c tt) (rc ws)) (mapped (λ s. delta (index w) (s .0) (s .1) tt) (span-reading ws))
+after-head rc w ws = cond (eqb (kind w) 1) (mapped (full-from (index w)) (rc ws)) (mapped (delta-from (index w)) (span-reading ws))
 
 abbrev pub head-read : {C : Type 0} → (List ℕ → Reading C) → List ℕ → Result ℕ ℕ → Reading (Message C (Unit {0}))
 head-read rc ws (Ok w) = after-head rc w (drop 1 ws)
