@@ -1,2 +1,4 @@
 pub mod Overs
 pub mod Clocks
+pub mod Sound
+pub mod Outcomes
