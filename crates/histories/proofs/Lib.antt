@@ -2,3 +2,4 @@ pub mod Overs
 pub mod Clocks
 pub mod Sound
 pub mod Outcomes
+pub mod Mails
