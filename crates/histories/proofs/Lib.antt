@@ -3,3 +3,4 @@ pub mod Clocks
 pub mod Sound
 pub mod Outcomes
 pub mod Mails
+pub mod Kept
