@@ -59,7 +59,7 @@ module _ {S R : Type 0} (K : Ghosts S R) (laws : Laws K) (start : Cluster (K .Va
     pub found-sound : (s : ℕ) (st : Station (K .Value)) → Found (y .stations) s st → Sound K log s st
     found-sound s st known = subst (Sound K log s) (known .here (fresh K 0)) (g .stations s (found-low s st known))
 
-    report-good : (s : ℕ) (r : R) (after : Station (K .Value)) (d : K .Value) → Reported K (y .stations) s r after →
+    pub report-good : (s : ℕ) (r : R) (after : Station (K .Value)) (d : K .Value) → Reported K (y .stations) s r after →
         d ≡ value-or (K .least) (K .reported (join-of K (covered (station K y s .clock) log)) s r) →
         z .stations ≡ set (y .stations) s after → z .waiting ≡ y .waiting → Good (record { by = s; nth = suc (report-count s log); change = d } ∷ log) os z
     report-good s r after d done is stations waiting =
@@ -95,7 +95,7 @@ module _ {S R : Type 0} (K : Ghosts S R) (laws : Laws K) (start : Cluster (K .Va
       strangers = g .strangers;
     }
 
-    delta-good : (s : ℕ) (put : List ℕ × Station (K .Value)) (h : History (K .Value) R) → Sent-delta K (y .stations) s put →
+    pub delta-good : (s : ℕ) (put : List ℕ × Station (K .Value)) (h : History (K .Value) R) → Sent-delta K (y .stations) s put →
         z .stations ≡ set (y .stations) s (put .1) → z .waiting ≡ y .waiting ++ (put .0 ∷ []) → Good log (os ++ (as-delta s h ∷ [])) z
     delta-good s put h done stations waiting =
         let st : Station (K .Value) = done .before in
@@ -111,7 +111,7 @@ module _ {S R : Type 0} (K : Ghosts S R) (laws : Laws K) (start : Cluster (K .Va
           (subst (Stations log) (sym table) (stations-set log (y .stations) s (emptied K s st) (g .size) (emptied-sound K laws log s st before) (λ j high other. g .stations j high)))
           waiting
 
-    full-good : (s : ℕ) (put : List ℕ × Station (K .Value)) (h : History (K .Value) R) → Sent-full K (y .stations) s put → report-count s log ≡ report-count s (reports K start h) →
+    pub full-good : (s : ℕ) (put : List ℕ × Station (K .Value)) (h : History (K .Value) R) → Sent-full K (y .stations) s put → report-count s log ≡ report-count s (reports K start h) →
         z .stations ≡ y .stations → z .waiting ≡ y .waiting ++ (put .0 ∷ []) → Good log (os ++ (as-full s h ∷ [])) z
     full-good s put h done is stations waiting =
         let st : Station (K .Value) = done .before in
@@ -122,7 +122,7 @@ module _ {S R : Type 0} (K : Ghosts S R) (laws : Laws K) (start : Cluster (K .Va
             subst (Mail K start log (as-full s h)) (sym (done .posted .words)) (record { message = m; opens = laws .wire .back m sendable; sound = full-sound K laws log s st before; came = before .own ∙ is }) in
         post-good (as-full s h) (put .0) new (ap length stations ∙ g .size) (subst (Stations log) (sym stations) (g .stations)) waiting
 
-    fetch-good : (s k : ℕ) (after : Station (K .Value)) → Fetched K (y .waiting) (y .stations) s k after → z .stations ≡ set (y .stations) s after → z .waiting ≡ y .waiting → Good log os z
+    pub fetch-good : (s k : ℕ) (after : Station (K .Value)) → Fetched K (y .waiting) (y .stations) s k after → z .stations ≡ set (y .stations) s after → z .waiting ≡ y .waiting → Good log os z
     fetch-good s k after done stations waiting =
         let st : Station (K .Value) = done .before in
         let before : Sound K log s st = found-sound s st (done .known) in
@@ -139,7 +139,7 @@ module _ {S R : Type 0} (K : Ghosts S R) (laws : Laws K) (start : Cluster (K .Va
           strangers = g .strangers;
         }
 
-    discard-good : (k : ℕ) → k < counted (y .waiting) → z .stations ≡ y .stations → z .waiting ≡ removed (y .waiting) k → Good log (removed os k) z
+    pub discard-good : (k : ℕ) → k < counted (y .waiting) → z .stations ≡ y .stations → z .waiting ≡ removed (y .waiting) k → Good log (removed os k) z
     discard-good k waits stations waiting = record {
       size = ap length stations ∙ g .size;
       stations = subst (Stations log) (sym stations) (g .stations);

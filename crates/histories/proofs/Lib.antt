@@ -4,3 +4,4 @@ pub mod Sound
 pub mod Outcomes
 pub mod Mails
 pub mod Kept
+pub mod Steps
