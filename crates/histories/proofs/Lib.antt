@@ -5,3 +5,4 @@ pub mod Outcomes
 pub mod Mails
 pub mod Kept
 pub mod Steps
+pub mod Rises

@@ -1,12 +1,11 @@
--- Every step of a history keeps the invariant, and lowers no entry of any clock. Assumes nothing.
-use mathlib.Core.Path.{_≡_, refl, sym, ap, subst, _∙_}
+-- Every step of a history keeps the invariant. Assumes nothing.
+use mathlib.Core.Path.{_≡_, refl, sym, ap, subst}
 use mathlib.Core.Bool.{Bool, true, false, cond}
-use mathlib.Core.List.{List, [], _∷_, _++_}
-use mathlib.Core.Logic.{_≢_}
-use Prim.Native.Nat.{ℕ, suc, _≤_, _<_, _+_}
+use mathlib.Core.List.{List, [], _∷_}
+use Prim.Native.Nat.{ℕ}
 use native.Mathlib.Omega.{arith}
 use lib.Dec.{ltb}
-use lib.ListN.{length, getD, set}
+use lib.ListN.{length}
 use Rattle.std.specs.declared.result.Result.{Result}
 use Rattle.std.specs.declared.result.Result.the-variants.{Ok, Err}
 use Rattle.std.specs.shelf.Lists.{removed}
@@ -14,16 +13,13 @@ use Rattle.std.proofs.shelf.Tests.{ltb-true}
 use Rattle.words.specs.Readings.{Told}
 use Rattle.crdt.specs.declared.kind.Crdt.{Ghosts}
 use Rattle.mailboxes.specs.Mailboxes.{counted}
-use Rattle.counters.specs.Counts.{only}
-use Rattle.wire.specs.Messages.{Message, full, delta, Clock}
-use Rattle.histories.specs.Clusters.{Station, Cluster, entry, raised, fresh, found}
-use Rattle.histories.specs.Calls.{Call, report, send-delta, send-full, fetch, discard, count, fits, peek, Answer, done-if, sent-if, changed, changed-too, appended, reporting, sending-delta, sending-full, hearing-opened, fetching, Step}
-use Rattle.histories.specs.Histories.{did, History, Accepted, Origin, end, origins, station, Lawful, clock-of, reports, Fresh}
-use Rattle.histories.proofs.Clocks.{entry-larger}
+use Rattle.histories.specs.Clusters.{Station, Cluster, found}
+use Rattle.histories.specs.Calls.{Call, report, send-delta, send-full, fetch, discard, count, fits, peek, Answer, done-if, sent-if, changed, changed-too, appended, reporting, sending-delta, sending-full, fetching, Step}
+use Rattle.histories.specs.Histories.{did, History, end, origins, Lawful, reports, Fresh}
 use Rattle.histories.proofs.Overs.{Laws}
-use Rattle.histories.proofs.Sound.{Sound, fresh-sound, with-message}
-use Rattle.histories.proofs.Outcomes.{Found, reported-was, delta-was-sent, full-was-sent, Fetched, fetched-was, heard-was}
-use Rattle.histories.proofs.Mails.{set-all, Mails}
+use Rattle.histories.proofs.Sound.{Sound, fresh-sound}
+use Rattle.histories.proofs.Outcomes.{reported-was, delta-was-sent, full-was-sent, fetched-was}
+use Rattle.histories.proofs.Mails.{Mails}
 use Rattle.histories.proofs.Kept.{Good, same-good, report-good, delta-good, full-good, fetch-good, discard-good}
 
 module _ {S R : Type 0} (K : Ghosts S R) (laws : Laws K) (start : Cluster (K .Value)) (n : ℕ) where
@@ -91,25 +87,3 @@ module _ {S R : Type 0} (K : Ghosts S R) (laws : Laws K) (start : Cluster (K .Va
   pub kept : Fresh K n start → (h : History (K .Value) R) → Lawful K start h → Kept h
   kept blank [] lawful = start-kept blank
   kept blank (did c a z ∷ h) lawful = step-kept h z (kept blank h (lawful .1)) c a (lawful .0)
-
-  -- no call lowers an entry
-  abbrev Rises : Station (K .Value) → Station (K .Value) → Type 0
-  Rises x y = (j : ℕ) → entry (x .clock) j ≤ entry (y .clock) j
-
-  rises-none : (y z : Cluster (K .Value)) → z .stations ≡ y .stations → (s : ℕ) → Rises (station K y s) (station K z s)
-  rises-none y z same s j = subst (λ ts. entry (station K y s .clock) j ≤ entry (getD ts s (fresh K 0) .clock) j) (sym same) (omega arith)
-
-  rises-one : (y z : Cluster (K .Value)) (i : ℕ) (before after : Station (K .Value)) → length (y .stations) ≡ n → Found (y .stations) i before → z .stations ≡ set (y .stations) i after → Rises before after →
-      (s : ℕ) → s < n → Rises (station K y s) (station K z s)
-  rises-one y z i before after size known is more s low j =
-      subst (λ ts. entry (station K y s .clock) j ≤ entry (getD ts s (fresh K 0) .clock) j) (sym is)
-        (set-all (λ k x. entry (station K y k .clock) j ≤ entry (x .clock) j) (y .stations) (fresh K 0) i after
-          (subst (λ (x : Station (K .Value)). entry (x .clock) j ≤ entry (after .clock) j) (sym (known .here (fresh K 0))) (more j))
-          (λ k within other. omega arith) s (omega arith))
-
-  rises-raised : (c : Clock) (i m j : ℕ) → entry c j ≤ entry (raised c i m) j
-  rises-raised c i m j = omega (arith, entry-larger c (only i m) j)
-
-  rises-message : (m : Message Clock (K .Value)) (st : Station (K .Value)) → Rises st (with-message K m st)
-  rises-message (full i c v) st j = omega (arith, entry-larger (st .clock) c j)
-  rises-message (delta i f t v) st j = rises-raised (st .clock) i t j
