@@ -6,3 +6,4 @@ pub mod Mails
 pub mod Kept
 pub mod Steps
 pub mod Rises
+pub mod Moments
