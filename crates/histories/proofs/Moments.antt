@@ -1,33 +1,28 @@
 -- What holds at each moment of a history: records are joins, clocks rise, and full messages are taken. Assumes nothing.
 use mathlib.Core.Path.{_≡_, refl, sym, ap, subst, _∙_}
-use mathlib.Core.Bool.{cond, _||_}
+use mathlib.Core.Bool.{_||_}
 use mathlib.Core.List.{List, [], _∷_, _++_}
 use mathlib.Core.Logic.{_⊎_, inl, inr}
-use Prim.Native.Nat.{ℕ, _≤_, _<_, max}
+use Prim.Native.Nat.{ℕ, _≤_, _<_}
 use native.Mathlib.Omega.{arith}
 use lib.Dec.{ltb, leb}
-use lib.ListN.{length, getD, set}
-use Rattle.std.proofs.shelf.Lists.{getD-set-same}
-use Rattle.std.proofs.shelf.Tests.{cases-eq, cases-lt, cond-true, cond-false, le-leb, le-ltb, lt-ltb}
+use lib.ListN.{length, getD}
+use Rattle.std.proofs.shelf.Tests.{cond-true, cond-false, le-ltb, lt-ltb}
 use Rattle.std.proofs.shelf.Ways.{tells}
-use Rattle.std.specs.declared.result.Result.{Result}
-use Rattle.std.specs.declared.result.Result.the-variants.{Ok, Err}
-use Rattle.words.specs.Readings.{Told}
+use Rattle.std.specs.declared.result.Result.the-variants.{Ok}
 use Rattle.words.specs.Writes.{most}
 use Rattle.crdt.specs.declared.kind.Crdt.{Ghosts}
 use Rattle.mailboxes.specs.Mailboxes.{counted}
 use Rattle.wire.specs.Messages.{Message, full, delta, Clock}
 use Rattle.wire.specs.Openings.{unpacked}
-use Rattle.histories.specs.Clusters.{Station, Cluster, entry, fresh, found}
-use Rattle.histories.specs.Calls.{report, send-delta, send-full, fetch, discard, count, fits, peek, Answer, done, number, room-for, refused, faulted, fetched-if, changed, hearing, hearing-opened, fetching, answered, Step}
-use Rattle.histories.specs.Histories.{Event, did, History, Accepted, Origin, as-full, as-delta, origin, report-count, covered, join-of, end, station, Lawful, clock-of, held-by, reports, Fresh}
-use Rattle.histories.specs.Promises.{Caught-up, Gathered, Covers-all}
-use Rattle.histories.proofs.Clocks.{entry-larger}
-use Rattle.histories.proofs.Overs.{Laws, covers, over, join-covered, numbered-le, count-le, over-or, over-same}
+use Rattle.histories.specs.Clusters.{Station, Cluster, entry, found}
+use Rattle.histories.specs.Calls.{report, send-delta, send-full, fetch, discard, count, fits, peek, done, number, room-for, refused, faulted, fetched-if, hearing-opened, fetching, answered}
+use Rattle.histories.specs.Histories.{Event, did, History, Accepted, Origin, as-full, origin, report-count, covered, join-of, end, Lawful, clock-of, held-by, reports, Fresh}
+use Rattle.histories.proofs.Overs.{Laws, covers, over, join-covered, count-le, over-or, over-same}
 use Rattle.histories.proofs.Sound.{Sound-full, Sound-message, covers-grown, with-message}
-use Rattle.histories.proofs.Outcomes.{found-was, fetched-was, heard-was}
+use Rattle.histories.proofs.Outcomes.{found-was}
 use Rattle.histories.proofs.Mails.{Full-at, From, Mail}
-use Rattle.histories.proofs.Kept.{Good, found-sound}
+use Rattle.histories.proofs.Kept.{found-sound}
 use Rattle.histories.proofs.Steps.{Kept, kept}
 use Rattle.histories.proofs.Rises.{rises}
 
@@ -62,10 +57,12 @@ module _ {S R : Type 0} (K : Ghosts S R) (laws : Laws K) (start : Cluster (K .Va
   covered-later c (x ∷ later) h low =
       let ih = covered-later c later h low in
       elim (reports-step x (later ++ h)) [
-        inl same ↦ (λ j. subst (λ l. c j ≤ report-count j l) (sym same) (ih .0 j), ap (λ l. over K l (covers c)) same ∙ ih .1)
-      | inr more ↦
-          (λ j. subst (λ l. c j ≤ report-count j l) (sym (more .1)) (omega (arith, ih .0 j, count-le j (more .0) (reports K start (later ++ h)))),
-           ap (λ l. over K l (covers c)) (more .1) ∙ covers-grown K laws (more .0) (reports K start (later ++ h)) c (ih .0) ∙ ih .1) ]
+        | inl same ↦ (λ j. subst (λ l. c j ≤ report-count j l) (sym same) (ih .0 j), ap (λ l. over K l (covers c)) same ∙ ih .1)
+        | inr more ↦ (
+          λ j. subst (λ l. c j ≤ report-count j l) (sym (more .1)) (omega (arith, ih .0 j, count-le j (more .0) (reports K start (later ++ h)))),
+          ap (λ l. over K l (covers c)) (more .1) ∙ covers-grown K laws (more .0) (reports K start (later ++ h)) c (ih .0) ∙ ih .1,
+        )
+      ]
 
   -- the words of a message that came as a full one
   pub record Full-mail (log : List (Accepted (K .Value))) (w : List ℕ) (i : ℕ) (g : History (K .Value) R) : Type 0 where
@@ -76,7 +73,7 @@ module _ {S R : Type 0} (K : Ghosts S R) (laws : Laws K) (start : Cluster (K .Va
     pub sound : Sound-full K log clock held
     pub sent : entry clock i ≡ report-count i (reports K start g)
 
-  full-mail : (o : Origin (K .Value) R) (i : ℕ) (g : History (K .Value) R) → o ≡ as-full i g → (log : List (Accepted (K .Value))) (w : List ℕ) → Mail K start log o w → Full-mail log w i g
+  pub full-mail : (o : Origin (K .Value) R) (i : ℕ) (g : History (K .Value) R) → o ≡ as-full i g → (log : List (Accepted (K .Value))) (w : List ℕ) → Mail K start log o w → Full-mail log w i g
   full-mail o i g is log w mail = go (mail .message) (mail .opens) (mail .sound) (subst (λ x. From K start x (mail .message)) is (mail .came))
     where
       go : (m : Message Clock (K .Value)) → unpacked K w ≡ Ok m → Sound-message K log m → Full-at i (report-count i (reports K start g)) m → Full-mail log w i g
@@ -84,7 +81,7 @@ module _ {S R : Type 0} (K : Ghosts S R) (laws : Laws K) (start : Cluster (K .Va
       go (delta j f t v) opens sound at-i = absurd at-i
 
   module _ (n : ℕ) (blank : Fresh K n start) where
-    joins-over : (h : History (K .Value) R) → Lawful K start h → (s : ℕ) → s < n → held-by K start h s ≡ over K (reports K start h) (covers (entry (clock-of K start h s)))
+    pub joins-over : (h : History (K .Value) R) → Lawful K start h → (s : ℕ) → s < n → held-by K start h s ≡ over K (reports K start h) (covers (entry (clock-of K start h s)))
     joins-over h lawful s low = kept K laws start n blank h lawful .stations s low .held
 
     pub joins : (h : History (K .Value) R) → Lawful K start h → (s : ℕ) → s < n → held-by K start h s ≡ join-of K (covered (clock-of K start h s) (reports K start h))
@@ -108,12 +105,12 @@ module _ {S R : Type 0} (K : Ghosts S R) (laws : Laws K) (start : Cluster (K .Va
         let c′ : ℕ → ℕ = entry (clock-of K start g′ t) in
         let left : held-by K start g s ≡ over K log (covers c) = joins-later later g lawful s low in
         let right : held-by K start g′ t ≡ over K log (covers c′) =
-            joins-later later′ g′ (subst (Lawful K start) same lawful) t high ∙ ap (λ l. over K (reports K start l) (covers c′)) (sym same) in
+        joins-later later′ g′ (subst (Lawful K start) same lawful) t high ∙ ap (λ l. over K (reports K start l) (covers c′)) (sym same) in
         ap (λ v. K .joined v (held-by K start g′ t)) left
-      ∙ ap (K .joined _) right
-      ∙ sym (over-or K laws log (covers c) (covers c′))
-      ∙ over-same K laws log (λ j k. covers c j k || covers c′ j k) (covers c′) (λ j k one some. or-under k (c j) (c′ j) (under j))
-      ∙ sym right
+        ∙ ap (K .joined _) right
+        ∙ sym (over-or K laws log (covers c) (covers c′))
+        ∙ over-same K laws log (λ j k. covers c j k || covers c′ j k) (covers c′) (λ j k one some. or-under k (c j) (c′ j) (under j))
+        ∙ sym right
 
     pub equal : (later g later′ g′ : History (K .Value) R) → Lawful K start (later ++ g) → later ++ g ≡ later′ ++ g′ →
         (s t : ℕ) → s < n → t < n → clock-of K start g s ≡ clock-of K start g′ t → held-by K start g s ≡ held-by K start g′ t
@@ -136,14 +133,14 @@ module _ {S R : Type 0} (K : Ghosts S R) (laws : Laws K) (start : Cluster (K .Va
         let low : entry (m .clock) s ≤ entry (st .clock) s = omega (arith, sound .own, m .sound .below s) in
         let after : Station (K .Value) = with-message K (full (m .sender) (m .clock) (m .held)) st in
         let takes : fetching K ws s k room (found K (end start g .stations) s) ≡ Ok after =
-            ap (fetching K ws s k room) is
-          ∙ cond-false (ltb room most) _ _ (le-ltb room most roomy)
-          ∙ cond-true (ltb k (counted ws)) _ _ (lt-ltb k (counted ws) waits)
-          ∙ ap (hearing-opened K s st) (m .opens)
-          ∙ cond-false (ltb (entry (st .clock) s) (entry (m .clock) s)) _ _ (le-ltb _ _ low) in
+        ap (fetching K ws s k room) is
+        ∙ cond-false (ltb room most) _ _ (le-ltb room most roomy)
+        ∙ cond-true (ltb k (counted ws)) _ _ (lt-ltb k (counted ws) waits)
+        ∙ ap (hearing-opened K s st) (m .opens)
+        ∙ cond-false (ltb (entry (st .clock) s) (entry (m .clock) s)) _ _ (le-ltb _ _ low) in
         ap (fetched-if s k (length (getD ws k []))) takes
 
-    rises-later : (later h : History (K .Value) R) → Lawful K start (later ++ h) → (s j : ℕ) → s < n → entry (clock-of K start h s) j ≤ entry (clock-of K start (later ++ h) s) j
+    pub rises-later : (later h : History (K .Value) R) → Lawful K start (later ++ h) → (s j : ℕ) → s < n → entry (clock-of K start h s) j ≤ entry (clock-of K start (later ++ h) s) j
     rises-later [] h lawful s j low = omega arith
     rises-later (did c a y ∷ later) h lawful s j low =
         omega (arith, rises-later later h (lawful .1) s j low, rises K n (end start (later ++ h)) y (kept K laws start n blank (later ++ h) (lawful .1) .size) c a (lawful .0) s low j)
