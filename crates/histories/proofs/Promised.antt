@@ -16,7 +16,7 @@ use Rattle.counters.specs.Counts.{larger}
 use Rattle.wire.specs.Messages.{full}
 use Rattle.histories.specs.Clusters.{Station, Cluster, entry, fresh, found}
 use Rattle.histories.specs.Calls.{fetch, number, fetched-if, changed, hearing-opened, fetching, Step}
-use Rattle.histories.specs.Histories.{did, History, as-full, origin, report-count, end, station, Lawful, clock-of, held-by, reports, Fresh}
+use Rattle.histories.specs.Histories.{did, History, Accepted, as-full, origin, report-count, end, station, Lawful, clock-of, held-by, reports, Fresh}
 use Rattle.histories.specs.Promises.{Caught-up, Gathered, Covers-all, Promised, Histories-promised}
 use Rattle.histories.proofs.Clocks.{entry-larger}
 use Rattle.histories.proofs.Overs.{Laws, covers, numbered-le, over-same}
@@ -34,21 +34,25 @@ module _ {S R : Type 0} (K : Ghosts S R) where
 
 module _ {S R : Type 0} (K : Ghosts S R) (laws : Laws K) (start : Cluster (K .Value)) (n : ℕ) (blank : Fresh K n start) where
   -- a fetch of a full message brings the entry for its sender to what it was there, at least
+  full-heard : (y z : Cluster (K .Value)) (s k i : ℕ) (after : Station (K .Value)) (log : List (Accepted (K .Value))) (sent-after : History (K .Value) R) →
+      Fetched K (y .waiting) (y .stations) s k after → Full-mail K laws start log (getD (y .waiting) k []) i sent-after → z .stations ≡ set (y .stations) s after →
+      report-count i (reports K start sent-after) ≤ entry (station K z s .clock) i
+  full-heard y z s k i after log sent-after f m stations =
+      let heard = heard-was K s (f .before) (full (m .sender) (m .clock) (m .held)) after (ap (hearing-opened K s (f .before)) (sym (m .opens)) ∙ f .heard) in
+      let there : station K z s ≡ with-message K (full (m .sender) (m .clock) (m .held)) (f .before) =
+      ap (λ ts. getD ts s (fresh K 0)) stations ∙ getD-set-same (y .stations) s after (fresh K 0) (f .known .within) ∙ heard .1 in
+      let e : entry (station K z s .clock) i ≡ entry (larger (f .before .clock) (m .clock)) i = ap (λ (x : Station (K .Value)). entry (x .clock) i) there in
+      omega (arith, e, entry-larger (f .before .clock) (m .clock) i, m .sent)
+
   full-fetched : (g : History (K .Value) R) → Lawful K start g → (z : Cluster (K .Value)) (s k room size : ℕ) → Step K (end start g) (fetch s k room) (number size) z →
       (i : ℕ) (sent-after : History (K .Value) R) → origin g k ≡ as-full i sent-after → report-count i (reports K start sent-after) ≤ entry (station K z s .clock) i
   full-fetched g lawful z s k room size step i sent-after came =
       let y : Cluster (K .Value) = end start g in
       let w : List ℕ = getD (y .waiting) k [] in
       let done = answers-number K y z s k size (length w) (fetching K (y .waiting) s k room (found K (y .stations) s)) (step .answer) (step .stations) in
-      let after : Station (K .Value) = done .0 in
-      let f : Fetched K (y .waiting) (y .stations) s k after = fetched-was K (y .waiting) (y .stations) s k room after (done .1) in
-      let m : Full-mail K laws start (reports K start g) w i sent-after =
-      full-mail K laws start _ i sent-after came (reports K start g) w (kept K laws start n blank g lawful .mails k (omega (arith, f .waits))) in
-      let heard = heard-was K s (f .before) (full (m .sender) (m .clock) (m .held)) after (ap (hearing-opened K s (f .before)) (sym (m .opens)) ∙ f .heard) in
-      let there : station K z s ≡ with-message K (full (m .sender) (m .clock) (m .held)) (f .before) =
-      ap (λ ts. getD ts s (fresh K 0)) (done .2) ∙ getD-set-same (y .stations) s after (fresh K 0) (f .known .within) ∙ heard .1 in
-      let e : entry (station K z s .clock) i ≡ entry (larger (f .before .clock) (m .clock)) i = ap (λ (x : Station (K .Value)). entry (x .clock) i) there in
-      omega (arith, e, entry-larger (f .before .clock) (m .clock) i, m .sent)
+      let f = fetched-was K (y .waiting) (y .stations) s k room (done .0) (done .1) in
+      let mail = kept K laws start n blank g lawful .mails k (omega (arith, f .waits)) in
+      full-heard y z s k i (done .0) (reports K start g) sent-after f (full-mail K laws start (origin g k) i sent-after came (reports K start g) w mail) (done .2)
 
   caught : (h : History (K .Value) R) → Lawful K start h → (s i : ℕ) → s < n → Caught-up K start h s i → report-count i (reports K start h) ≤ entry (clock-of K start h s) i
   caught h lawful s i low c =

@@ -1,15 +1,14 @@
 -- Stations and messages that tell the truth of a list of reports, and how each call keeps them so. Assumes nothing.
 use mathlib.Core.Path.{_≡_, refl, sym, ap, subst, _∙_}
-use mathlib.Core.Bool.{Bool, true, false, cond, _&&_, _||_}
+use mathlib.Core.Bool.{Bool, _&&_, _||_}
 use mathlib.Core.List.{List, [], _∷_}
 use mathlib.Core.Logic.{inl, inr, _≢_}
-use Prim.Native.Nat.{ℕ, suc, _+_, _≤_, _<_, max}
+use Prim.Native.Nat.{ℕ, suc, _+_, _≤_, _<_}
 use native.Mathlib.Omega.{arith}
 use lib.Dec.{ltb, leb, eqb}
 use Rattle.std.proofs.shelf.Tests.{cond-false, ne-eqb, lt-leb, le-leb, cases-eq}
 use Rattle.std.proofs.shelf.Ways.{tells}
 use Rattle.crdt.specs.declared.kind.Crdt.{Ghosts}
-use Rattle.entries.specs.Rows.{empty}
 use Rattle.counters.specs.Counts.{larger}
 use Rattle.wire.specs.Messages.{Message, full, delta, Clock}
 use Rattle.histories.specs.Clusters.{Station, entry, raised, fresh}
