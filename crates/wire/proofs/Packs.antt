@@ -41,6 +41,10 @@ leaves-three old h f t b few room =
     ∙ leaves-step (set old 0 h) 1 f (t ∷ b) (omega arith) (omega arith)
     ∙ leaves-step old 0 h (f ∷ (t ∷ b)) (omega arith) (omega arith)
 
+-- one answer is one place
+pub answered : (m n : ℕ) → _≡_ {A = Result ℕ ℕ} (Ok m) (Ok n) → m ≡ n
+answered m n e = cc
+
 -- the ways of a head
 module _ (k s n room : ℕ) where
   pub made-station : 15 < s → head-made k s n room ≡ Err 1

@@ -7,6 +7,7 @@ use native.Mathlib.Omega.{arith}
 use lib.Dec.{ltb, leb, eqb}
 use lib.ListN.{length, take, drop, length-append, length-drop}
 use lib.Seq.{take-at, drop-at}
+use Rattle.std.proofs.shelf.Lists.{take-rest}
 use Rattle.std.proofs.shelf.Tests.{cond-true, cond-false, eq-eqb, le-leb, lt-ltb, le-ltb, eqb-true, leb-true, and-parts, and-from, cases-bool}
 use mathlib.Core.Logic.{⊎-elim}
 use Rattle.std.specs.declared.result.Result.{Result}
@@ -16,7 +17,7 @@ use Rattle.words.specs.declared.reader.Reader.{Reader}
 use Rattle.words.specs.Readings.{Reading, read, wrong, read-or, rest, Told, left, stepped, before, fault-at, load-answer}
 use Rattle.words.specs.Words.{kind, index, formed, word-of}
 use Rattle.entries.specs.Rows.{empty}
-use Rattle.wire.specs.Messages.{Message, full, delta, Clock, clock-written, packed-by, head-word}
+use Rattle.wire.specs.Messages.{Message, full, delta, sender-of, Clock, clock-written, packed-by, head-word}
 use Rattle.wire.specs.Openings.{found, length-right, head-found, to-read, from-read, span-reading, mapped, full-from, delta-from, after-head, head-read, opening, fault-in, left-over, with-record, completed, loaded-by, unpacked-by, clock-reading, record-of}
 use Rattle.wire.specs.Answers.{found-at, reading-answer, bare, header-answer, clock-in, clock-opened, in-words, open-answer}
 use Rattle.wire.proofs.Heads.{was-found, Headed, head-was}
@@ -195,6 +196,72 @@ module _ (ws : List ℕ) where
 
   pub not-opened : {V : Type 0} (rv : List ℕ → Reading V) (n : ℕ) (more : List ℕ) → opening ws ≡ wrong n more → unpacked-by clock-reading rv ws ≡ Err (fault-in layer.Message ws n more)
   not-opened rv n more o = ap (loaded-by rv ws) o
+
+-- which message was opened, from its header
+pub bare-full : (m : Message Clock (Unit {0})) (s : ℕ) → full s tt tt ≡ bare m → (c : Clock) × (m ≡ full s c tt)
+bare-full (full r c u) s e = let p : r ≡ s = cc in (c, ap (λ x. full x c tt) p)
+bare-full (delta r f t u) s e = let z : _≡_ {A = ℕ} 0 1 = cc in absurd (omega arith)
+
+pub bare-delta : (m : Message Clock (Unit {0})) (s f t : ℕ) → delta s f t tt ≡ bare m → m ≡ delta s f t tt
+bare-delta (full r c u) s f t e = let z : _≡_ {A = ℕ} 0 1 = cc in absurd (omega arith)
+bare-delta (delta r g v u) s f t e =
+    let a : r ≡ s = cc in
+    let b : g ≡ f = cc in
+    let d : v ≡ t = cc in
+    ap (λ x. delta x g v tt) a ∙ ap (λ x. delta s x v tt) b ∙ ap (λ x. delta s f x tt) d
+
+-- the parts of the words are those of the message
+module _ (ws : List ℕ) (m : Message Clock (Unit {0})) (more : List ℕ) (o : opening ws ≡ read m more) (end : ℕ) (is : end ≡ length ws - length more) where
+  record-part : take (length ws - end) (drop end ws) ≡ more
+  record-part = take-rest ws end ∙ record-is ws m more o end is
+
+  pub opened-full : (s : ℕ) → full s tt tt ≡ bare m → Ok (full s (take (end - 1) (drop 1 ws)) (take (length ws - end) (drop end ws))) ≡ open-answer ws (opening ws)
+  opened-full s b =
+      let p = bare-full m s b in
+      let c = p .0 in
+      let f = o ∙ ap (λ x. read x more) (p .1) in
+      ap (λ xs. Ok (full s xs (take (length ws - end) (drop end ws)))) (clock-is ws s c more f end is)
+      ∙ ap (λ xs. Ok (full s (clock-written c) xs)) record-part
+      ∙ sym (ap (open-answer ws) f)
+
+  pub opened-delta : (s f t : ℕ) → delta s f t tt ≡ bare m → Ok (delta s f t (take (length ws - end) (drop end ws))) ≡ open-answer ws (opening ws)
+  opened-delta s f t b =
+      let e = o ∙ ap (λ x. read x more) (bare-delta m s f t b) in
+      ap (λ xs. Ok (delta s f t xs)) record-part ∙ sym (ap (open-answer ws) e)
+
+  sender-with : (x : Message Clock (Unit {0})) (b : Message (Unit {0}) (Unit {0})) → b ≡ bare x → sender-of b ≡ sender-of (with-record x more)
+  sender-with (full s c u) b e = ap sender-of e
+  sender-with (delta s f t u) b e = ap sender-of e
+
+  pub sender-low : (b : Message (Unit {0}) (Unit {0})) → b ≡ bare m → sender-of b < 16
+  sender-low b e =
+      let p = sender-with m b e in
+      let q = parts ws m more o .1 .station in
+      omega arith
+
+-- the parts of an opened message are all of its words
+opened-by : (ws : List ℕ) (x : Reading (Message Clock (Unit {0}))) (p : Message (List ℕ) (List ℕ)) → opening ws ≡ x → Ok p ≡ open-answer ws x → ws ≡ packed-by (λ xs. xs) (λ xs. xs) p
+opened-by ws (read (full s c u) more) p o e = let q : p ≡ full s (clock-written c) more = cc in parts ws (full s c u) more o .0 ∙ ap (packed-by (λ xs. xs) (λ xs. xs)) (sym q)
+opened-by ws (read (delta s f t u) more) p o e = let q : p ≡ delta s f t more = cc in parts ws (delta s f t u) more o .0 ∙ ap (packed-by (λ xs. xs) (λ xs. xs)) (sym q)
+opened-by ws (wrong n more) p o e = let z : _≡_ {A = ℕ} 0 1 = cc in absurd (omega arith)
+
+pub opened-words : (ws : List ℕ) (p : Message (List ℕ) (List ℕ)) → Ok p ≡ open-answer ws (opening ws) → ws ≡ packed-by (λ xs. xs) (λ xs. xs) p
+opened-words ws p e = opened-by ws (opening ws) p refl e
+
+-- a reader that began at the front of the words of an opened message, and stands at its record
+module _ (start s : Reader) (front : start .place ≡ 0) (m : Message Clock (Unit {0})) (more : List ℕ) (o : opening (start .words .now) ≡ read m more) (stands : s ≡ before start more) where
+  pub at-record : At start s more
+  at-record =
+      let d = length-drop (start .place) (start .words .now) in
+      let h = more-fewer (start .words .now) m more o in
+      let n : start .place + length (left start) - length more ≡ length (start .words .now) - length more = omega arith in
+      record { stands = stands; sees = ap left stands ∙ record-is (start .words .now) m more o _ n; room = omega arith }
+
+  pub place-after : (k : List ℕ) → before s k .place ≡ length (start .words .now) - length k
+  place-after k =
+      let d = length-drop (start .place) (start .words .now) in
+      let e : before s k .place ≡ start .place + length (left start) - length k = ap (λ (r : Reader). r .place) (at-before start s more at-record k) in
+      omega arith
 
 pub clock-with : {V : Type 0} (m : Message Clock (Unit {0})) (v : V) → clock-in m ≡ clock-in (with-record m v)
 clock-with (full s c u) v = refl

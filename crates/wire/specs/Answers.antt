@@ -8,6 +8,8 @@
 --     clock-opened x       the clock of an opened message, empty where it has none
 --     in-words m more      an opened message, by the words of its clock and of its record
 --     open-answer ws x     what opening the words ws as x answers
+--     joined-words m       the words of a message, from the words of its clock and of its record
+--     unpack-answer x      what unpacking a message as x answers
 --     clock-unpacked x     the clock of an unpacked message, empty where it has none
 --     record-unpacked d x  the record of an unpacked message, or d
 use mathlib.Core.List.{List}
@@ -22,7 +24,7 @@ use Rattle.words.specs.declared.word.Word.{Word}
 use Rattle.words.specs.Readings.{Reading, read, wrong, Told, told-fault, before, fault-at}
 use Rattle.words.specs.Refusals.{number-of}
 use Rattle.entries.specs.Rows.{empty}
-use Rattle.wire.specs.Messages.{Message, full, delta, Clock, clock-written}
+use Rattle.wire.specs.Messages.{Message, full, delta, Clock, clock-written, packed-by}
 use Rattle.wire.specs.Openings.{fault-in, record-of}
 
 abbrev pub word-told : Result Word Refusal → Result ℕ ℕ
@@ -64,6 +66,9 @@ in-words (delta s f t u) more = delta s f t more
 abbrev pub open-answer : List ℕ → Reading (Message Clock (Unit {0})) → Result (Message (List ℕ) (List ℕ)) Told
 open-answer ws (read m more) = Ok (in-words m more)
 open-answer ws (wrong n more) = Err (fault-in layer.Message ws n more)
+
+abbrev pub joined-words : Message (List ℕ) (List ℕ) → List ℕ
+joined-words m = packed-by (λ ws. ws) (λ ws. ws) m
 
 abbrev pub unpack-answer : {C V : Type 0} → Result (Message C V) Told → Result (Message (Unit {0}) (Unit {0})) Told
 unpack-answer (Ok m) = Ok (bare m)
