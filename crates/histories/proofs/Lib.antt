@@ -1,0 +1,9 @@
+pub mod Overs
+pub mod Clocks
+pub mod Sound
+pub mod Outcomes
+pub mod Mails
+pub mod Kept
+pub mod Steps
+pub mod Rises
+pub mod Moments

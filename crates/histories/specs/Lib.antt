@@ -1,0 +1,4 @@
+pub mod Clusters
+pub mod Calls
+pub mod Histories
+pub mod Promises
