@@ -68,10 +68,10 @@ module _ {S R : Type 0} (K : Ghosts S R) (laws : Laws K) (start : Cluster (K .Va
         let low : s < n = found-low s st (done .known) in
         let before : Sound K log s st = found-sound s st (done .known) in
         let same : done .change ≡ d =
-            ap (value-or (K .least)) (sym (done .allowed))
-          ∙ ap (λ v. value-or (K .least) (K .reported v s r)) (before .held ∙ sym (join-covered K laws (st .clock) log (g .numbered)))
-          ∙ ap (λ (x : Station (K .Value)). value-or (K .least) (K .reported (join-of K (covered (x .clock) log)) s r)) (sym (done .known .here (fresh K 0)))
-          ∙ sym is in
+        ap (value-or (K .least)) (sym (done .allowed))
+        ∙ ap (λ v. value-or (K .least) (K .reported v s r)) (before .held ∙ sym (join-covered K laws (st .clock) log (g .numbered)))
+        ∙ ap (λ (x : Station (K .Value)). value-or (K .least) (K .reported (join-of K (covered (x .clock) log)) s r)) (sym (done .known .here (fresh K 0)))
+        ∙ sym is in
         let table : z .stations ≡ set (y .stations) s (with-report K s d st) = stations ∙ ap (set (y .stations) s) (done .leaves ∙ ap (λ v. with-report K s v st) same) in
         record {
           size = ap length table ∙ length-set (y .stations) s _ ∙ g .size;
@@ -105,11 +105,11 @@ module _ {S R : Type 0} (K : Ghosts S R) (laws : Laws K) (start : Cluster (K .Va
         let some : st .sent ≢ entry (st .clock) s = done .some in
         let sendable : Sendable K m = record { few = done .posted .short; station = before .few; rises = (omega arith, entry-low (st .clock) s) } in
         let new : Mail K start log (as-delta s h) (put .0) =
-            subst (Mail K start log (as-delta s h)) (sym (done .posted .words)) (record { message = m; opens = laws .wire .back m sendable; sound = delta-sound K laws log s st before; came = tt }) in
+        subst (Mail K start log (as-delta s h)) (sym (done .posted .words)) (record { message = m; opens = laws .wire .back m sendable; sound = delta-sound K laws log s st before; came = tt }) in
         let table : z .stations ≡ set (y .stations) s (emptied K s st) = stations ∙ ap (set (y .stations) s) (done .posted .leaves) in
         post-good (as-delta s h) (put .0) new (ap length table ∙ length-set (y .stations) s _ ∙ g .size)
-          (subst (Stations log) (sym table) (stations-set log (y .stations) s (emptied K s st) (g .size) (emptied-sound K laws log s st before) (λ j high other. g .stations j high)))
-          waiting
+        (subst (Stations log) (sym table) (stations-set log (y .stations) s (emptied K s st) (g .size) (emptied-sound K laws log s st before) (λ j high other. g .stations j high)))
+        waiting
 
     pub full-good : (s : ℕ) (put : List ℕ × Station (K .Value)) (h : History (K .Value) R) → Sent-full K (y .stations) s put → report-count s log ≡ report-count s (reports K start h) →
         z .stations ≡ y .stations → z .waiting ≡ y .waiting ++ (put .0 ∷ []) → Good log (os ++ (as-full s h ∷ [])) z
@@ -119,7 +119,7 @@ module _ {S R : Type 0} (K : Ghosts S R) (laws : Laws K) (start : Cluster (K .Va
         let m : Message Clock (K .Value) = full s (st .clock) (st .held) in
         let sendable : Sendable K m = record { few = done .posted .short; station = before .few; rises = tt } in
         let new : Mail K start log (as-full s h) (put .0) =
-            subst (Mail K start log (as-full s h)) (sym (done .posted .words)) (record { message = m; opens = laws .wire .back m sendable; sound = full-sound K laws log s st before; came = before .own ∙ is }) in
+        subst (Mail K start log (as-full s h)) (sym (done .posted .words)) (record { message = m; opens = laws .wire .back m sendable; sound = full-sound K laws log s st before; came = before .own ∙ is }) in
         post-good (as-full s h) (put .0) new (ap length stations ∙ g .size) (subst (Stations log) (sym stations) (g .stations)) waiting
 
     pub fetch-good : (s k : ℕ) (after : Station (K .Value)) → Fetched K (y .waiting) (y .stations) s k after → z .stations ≡ set (y .stations) s after → z .waiting ≡ y .waiting → Good log os z

@@ -34,8 +34,9 @@ removed-both os ws k waits sizes = let a = length-removed os k (omega arith) in 
 pub set-all : {X : Type 0} (P : ℕ → X → Type 0) (xs : List X) (d : X) (i : ℕ) (x : X) → P i x →
     ((j : ℕ) → j < length xs → j ≢ i → P j (getD xs j d)) → (j : ℕ) → j < length xs → P j (getD (set xs i x) j d)
 set-all P xs d i x here there j low = elim (cases-eq j i) [
-    inl same ↦ subst (λ k. P k (getD (set xs i x) k d)) (sym same) (subst (P i) (sym (getD-set-same xs i x d (subst (λ k. k < length xs) same low))) here)
-  | inr other ↦ subst (P j) (sym (getD-set-other xs i j x d other)) (there j low other) ]
+  | inl same ↦ subst (λ k. P k (getD (set xs i x) k d)) (sym same) (subst (P i) (sym (getD-set-same xs i x d (subst (λ k. k < length xs) same low))) here)
+  | inr other ↦ subst (P j) (sym (getD-set-other xs i j x d other)) (there j low other)
+]
 
 module _ {S R : Type 0} (K : Ghosts S R) (start : Cluster (K .Value)) where
   -- what is known of how a message came
@@ -56,17 +57,19 @@ module _ {S R : Type 0} (K : Ghosts S R) (start : Cluster (K .Value)) where
   module _ (log : List (Accepted (K .Value))) (os : List (Origin (K .Value) R)) (ws : List (List ℕ)) (sizes : length os ≡ length ws) (old : Mails log os ws) where
     pub mails-push : (o : Origin (K .Value) R) (w : List ℕ) → Mail log o w → Mails log (os ++ (o ∷ [])) (ws ++ (w ∷ []))
     mails-push o w new k low = elim (cases-lt k (length ws)) [
-        inl before ↦ rw (getD-append-left os (o ∷ []) (as-delta 0 []) k (omega arith), getD-append-left ws (w ∷ []) [] k before) (old k before)
+      | inl before ↦ rw (getD-append-left os (o ∷ []) (as-delta 0 []) k (omega arith), getD-append-left ws (w ∷ []) [] k before) (old k before)
       | inr past ↦
           (let last : length ws ≡ k = omega (arith, length-push ws w) in
-          rw (getD-push os o (as-delta 0 []) k (sizes ∙ last), getD-push ws w [] k last) new) ]
+          rw (getD-push os o (as-delta 0 []) k (sizes ∙ last), getD-push ws w [] k last) new)
+    ]
 
     pub mails-removed : (i : ℕ) → i < length ws → Mails log (removed os i) (removed ws i)
     mails-removed i waits k low =
         let fewer : k + 1 < length ws = omega (arith, length-removed ws i waits) in
         elim (cases-lt k i) [
-          inl before ↦ rw (getD-removed-below os i (as-delta 0 []) k before (omega arith), getD-removed-below ws i [] k before waits) (old k (omega arith))
-        | inr past ↦ rw (getD-removed-above os i (as-delta 0 []) k past (omega arith), getD-removed-above ws i [] k past waits) (old (k + 1) (omega arith)) ]
+          | inl before ↦ rw (getD-removed-below os i (as-delta 0 []) k before (omega arith), getD-removed-below ws i [] k before waits) (old k (omega arith))
+          | inr past ↦ rw (getD-removed-above os i (as-delta 0 []) k past (omega arith), getD-removed-above ws i [] k past waits) (old (k + 1) (omega arith))
+        ]
 
   pub mail-grown : Laws K → (e : Accepted (K .Value)) (log : List (Accepted (K .Value))) (o : Origin (K .Value) R) (w : List ℕ) → Mail log o w → Mail (e ∷ log) o w
   mail-grown laws e log o w m = record { message = m .message; opens = m .opens; sound = grown-message K laws e log (m .message) (m .sound); came = m .came }

@@ -62,10 +62,12 @@ module _ {S R : Type 0} (K : Ghosts S R) (laws : Laws K) (start : Cluster (K .Va
   covered-later c (x ∷ later) h low =
       let ih = covered-later c later h low in
       elim (reports-step x (later ++ h)) [
-        inl same ↦ (λ j. subst (λ l. c j ≤ report-count j l) (sym same) (ih .0 j), ap (λ l. over K l (covers c)) same ∙ ih .1)
-      | inr more ↦
-          (λ j. subst (λ l. c j ≤ report-count j l) (sym (more .1)) (omega (arith, ih .0 j, count-le j (more .0) (reports K start (later ++ h)))),
-           ap (λ l. over K l (covers c)) (more .1) ∙ covers-grown K laws (more .0) (reports K start (later ++ h)) c (ih .0) ∙ ih .1) ]
+        | inl same ↦ (λ j. subst (λ l. c j ≤ report-count j l) (sym same) (ih .0 j), ap (λ l. over K l (covers c)) same ∙ ih .1)
+        | inr more ↦ (
+          λ j. subst (λ l. c j ≤ report-count j l) (sym (more .1)) (omega (arith, ih .0 j, count-le j (more .0) (reports K start (later ++ h)))),
+          ap (λ l. over K l (covers c)) (more .1) ∙ covers-grown K laws (more .0) (reports K start (later ++ h)) c (ih .0) ∙ ih .1,
+        )
+      ]
 
   -- the words of a message that came as a full one
   pub record Full-mail (log : List (Accepted (K .Value))) (w : List ℕ) (i : ℕ) (g : History (K .Value) R) : Type 0 where
@@ -108,12 +110,12 @@ module _ {S R : Type 0} (K : Ghosts S R) (laws : Laws K) (start : Cluster (K .Va
         let c′ : ℕ → ℕ = entry (clock-of K start g′ t) in
         let left : held-by K start g s ≡ over K log (covers c) = joins-later later g lawful s low in
         let right : held-by K start g′ t ≡ over K log (covers c′) =
-            joins-later later′ g′ (subst (Lawful K start) same lawful) t high ∙ ap (λ l. over K (reports K start l) (covers c′)) (sym same) in
+        joins-later later′ g′ (subst (Lawful K start) same lawful) t high ∙ ap (λ l. over K (reports K start l) (covers c′)) (sym same) in
         ap (λ v. K .joined v (held-by K start g′ t)) left
-      ∙ ap (K .joined _) right
-      ∙ sym (over-or K laws log (covers c) (covers c′))
-      ∙ over-same K laws log (λ j k. covers c j k || covers c′ j k) (covers c′) (λ j k one some. or-under k (c j) (c′ j) (under j))
-      ∙ sym right
+        ∙ ap (K .joined _) right
+        ∙ sym (over-or K laws log (covers c) (covers c′))
+        ∙ over-same K laws log (λ j k. covers c j k || covers c′ j k) (covers c′) (λ j k one some. or-under k (c j) (c′ j) (under j))
+        ∙ sym right
 
     pub equal : (later g later′ g′ : History (K .Value) R) → Lawful K start (later ++ g) → later ++ g ≡ later′ ++ g′ →
         (s t : ℕ) → s < n → t < n → clock-of K start g s ≡ clock-of K start g′ t → held-by K start g s ≡ held-by K start g′ t
@@ -136,11 +138,11 @@ module _ {S R : Type 0} (K : Ghosts S R) (laws : Laws K) (start : Cluster (K .Va
         let low : entry (m .clock) s ≤ entry (st .clock) s = omega (arith, sound .own, m .sound .below s) in
         let after : Station (K .Value) = with-message K (full (m .sender) (m .clock) (m .held)) st in
         let takes : fetching K ws s k room (found K (end start g .stations) s) ≡ Ok after =
-            ap (fetching K ws s k room) is
-          ∙ cond-false (ltb room most) _ _ (le-ltb room most roomy)
-          ∙ cond-true (ltb k (counted ws)) _ _ (lt-ltb k (counted ws) waits)
-          ∙ ap (hearing-opened K s st) (m .opens)
-          ∙ cond-false (ltb (entry (st .clock) s) (entry (m .clock) s)) _ _ (le-ltb _ _ low) in
+        ap (fetching K ws s k room) is
+        ∙ cond-false (ltb room most) _ _ (le-ltb room most roomy)
+        ∙ cond-true (ltb k (counted ws)) _ _ (lt-ltb k (counted ws) waits)
+        ∙ ap (hearing-opened K s st) (m .opens)
+        ∙ cond-false (ltb (entry (st .clock) s) (entry (m .clock) s)) _ _ (le-ltb _ _ low) in
         ap (fetched-if s k (length (getD ws k []))) takes
 
     rises-later : (later h : History (K .Value) R) → Lawful K start (later ++ h) → (s j : ℕ) → s < n → entry (clock-of K start h s) j ≤ entry (clock-of K start (later ++ h) s) j

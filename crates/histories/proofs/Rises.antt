@@ -43,16 +43,16 @@ module _ {S R : Type 0} (K : Ghosts S R) where
         (s : ℕ) → s < n → Higher (station K y s) (station K z s)
     one-changed i before after known is more s low =
         subst (λ ts. Higher (station K y s) (getD ts s (fresh K 0))) (sym is)
-          (set-all (λ k x. Higher (station K y k) x) (y .stations) (fresh K 0) i after
-            (subst (λ x. Higher x after) (sym (known .here (fresh K 0))) more)
-            (λ k within other j. omega arith) s (omega arith))
+        (set-all (λ k x. Higher (station K y k) x) (y .stations) (fresh K 0) i after
+        (subst (λ x. Higher x after) (sym (known .here (fresh K 0))) more)
+        (λ k within other j. omega arith) s (omega arith))
 
     by-report : (i : ℕ) (r : R) (o : Result (Station (K .Value)) ℕ) → reporting K i r (found K (y .stations) i) ≡ o → z .stations ≡ changed (y .stations) i o →
         (s : ℕ) → s < n → Higher (station K y s) (station K z s)
     by-report i r (Ok after) e is s low =
         let done = reported-was K (y .stations) i r after e in
         one-changed i (done .before) after (done .known) is
-          (subst (Higher (done .before)) (sym (done .leaves)) (raised-higher (done .before .clock) i (entry (done .before .clock) i + 1))) s low
+        (subst (Higher (done .before)) (sym (done .leaves)) (raised-higher (done .before .clock) i (entry (done .before .clock) i + 1))) s low
     by-report i r (Err e) was is s low = none-changed is s
 
     by-delta : (i room : ℕ) (o : Result (List ℕ × Station (K .Value)) ℕ) → sending-delta K (y .takes) i room (found K (y .stations) i) ≡ o → z .stations ≡ changed-too (y .stations) i o →

@@ -60,8 +60,9 @@ Reaches st (delta i f t v) = f ≤ entry (st .clock) i
 
 span-more : (i m x j k : ℕ) → (j ≡ i → k ≤ x) → spans i m x j k ≡ spans i m (suc x) j k
 span-more i m x j k low = elim (cases-eq j i) [
-    inl same ↦ (let lower : k ≤ x = low same in grind (arith, tells))
-  | inr other ↦ grind (arith, tells) ]
+  | inl same ↦ (let lower : k ≤ x = low same in grind (arith, tells))
+  | inr other ↦ grind (arith, tells)
+]
 
 span-joins : (c : Clock) (i a b k : ℕ) → i < 16 → b ≤ 65535 → a ≤ entry c i → (j : ℕ) → (leb k (entry c j) || spans i a b j k) ≡ leb k (entry (raised c i b) j)
 span-joins c i a b k few small reaches = raised-by (λ j n. (leb k (entry c j) || spans i a b j k) ≡ leb k n) c i b few small (grind (arith, tells)) (λ j other. grind (arith, tells))
@@ -83,8 +84,9 @@ module _ {S R : Type 0} (K : Ghosts S R) (laws : Laws K) where
 
   spans-grown : (e : Accepted (K .Value)) (log : List (Accepted (K .Value))) (i a b : ℕ) → b ≤ report-count i log → over K (e ∷ log) (spans i a b) ≡ over K log (spans i a b)
   spans-grown e log i a b low = over-skips K laws e log (spans i a b) (elim (cases-eq (e .by) i) [
-      inl same ↦ (let lower : b ≤ report-count (e .by) log = subst (λ j. b ≤ report-count j log) (sym same) low in grind (arith, tells))
-    | inr other ↦ grind (arith, tells) ])
+    | inl same ↦ (let lower : b ≤ report-count (e .by) log = subst (λ j. b ≤ report-count j log) (sym same) low in grind (arith, tells))
+    | inr other ↦ grind (arith, tells)
+  ])
 
   pub grown : (e : Accepted (K .Value)) (log : List (Accepted (K .Value))) (i : ℕ) (st : Station (K .Value)) → e .by ≢ i → Sound K log i st → Sound K (e ∷ log) i st
   grown e log i st other s = record {
@@ -140,18 +142,18 @@ module _ {S R : Type 0} (K : Ghosts S R) (laws : Laws K) where
         below = raised-by (λ j n. n ≤ report-count j (e ∷ log)) (st .clock) i (x + 1) few small (omega (arith, count-self e log)) (λ j other. omega (arith, s .below j, count-le j e log));
         held =
             ap (λ v. K .joined v d) (s .held)
-          ∙ laws .comm _ d
-          ∙ ap (K .joined d) (over-same K laws log (covers (entry (st .clock))) (covers (entry c)) (λ j k low high.
-                raised-by (λ j n. k ≤ report-count j log → leb k (entry (st .clock) j) ≡ leb k n) (st .clock) i (x + 1) few small (λ high. grind (arith, tells)) (λ j other high. refl) j high))
-          ∙ sym (over-takes K laws e log (covers (entry c)) (le-leb _ _ (omega arith)));
+            ∙ laws .comm _ d
+            ∙ ap (K .joined d) (over-same K laws log (covers (entry (st .clock))) (covers (entry c)) (λ j k low high.
+            raised-by (λ j n. k ≤ report-count j log → leb k (entry (st .clock) j) ≡ leb k n) (st .clock) i (x + 1) few small (λ high. grind (arith, tells)) (λ j other high. refl) j high))
+            ∙ sym (over-takes K laws e log (covers (entry c)) (le-leb _ _ (omega arith)));
         marked = omega (arith, s .marked);
         pending =
             ap (λ v. K .joined v d) (s .pending)
-          ∙ laws .comm _ d
-          ∙ ap (K .joined d) (over-same K laws log (spans i (st .sent) x) (spans i (st .sent) (suc x)) (λ j k low high.
-                span-more i (st .sent) x j k (λ same. omega (arith, subst (λ n. k ≤ report-count n log) same high))))
-          ∙ sym (over-takes K laws e log (spans i (st .sent) (suc x)) (let marked : st .sent ≤ x = s .marked in grind (arith, tells)))
-          ∙ ap (λ n. over K (e ∷ log) (spans i (st .sent) n)) (sym at-i);
+            ∙ laws .comm _ d
+            ∙ ap (K .joined d) (over-same K laws log (spans i (st .sent) x) (spans i (st .sent) (suc x)) (λ j k low high.
+            span-more i (st .sent) x j k (λ same. omega (arith, subst (λ n. k ≤ report-count n log) same high))))
+            ∙ sym (over-takes K laws e log (spans i (st .sent) (suc x)) (let marked : st .sent ≤ x = s .marked in grind (arith, tells)))
+            ∙ ap (λ n. over K (e ∷ log) (spans i (st .sent) n)) (sym at-i);
       }
 
   fetch-full : (log : List (Accepted (K .Value))) (s : ℕ) (c : Clock) (i : ℕ) (v : K .Value) (st : Station (K .Value)) → Sound K log s st → Sound-full K log c v → Sound K log s (with-message K (full i c v) st)
@@ -165,10 +167,10 @@ module _ {S R : Type 0} (K : Ghosts S R) (laws : Laws K) where
         below = λ j. omega (arith, good .below j, m .below j, entry-larger (st .clock) c j);
         held =
             ap (λ x. K .joined x v) (good .held)
-          ∙ ap (K .joined _) (m .held)
-          ∙ sym (over-or K laws log (covers (entry (st .clock))) (covers (entry c)))
-          ∙ over-same K laws log (λ j k. covers (entry (st .clock)) j k || covers (entry c) j k) (covers (entry c′)) (λ j k low high.
-                let most = entry-larger (st .clock) c j in grind (arith, tells));
+            ∙ ap (K .joined _) (m .held)
+            ∙ sym (over-or K laws log (covers (entry (st .clock))) (covers (entry c)))
+            ∙ over-same K laws log (λ j k. covers (entry (st .clock)) j k || covers (entry c) j k) (covers (entry c′)) (λ j k low high.
+            let most = entry-larger (st .clock) c j in grind (arith, tells));
         marked = omega (arith, good .marked);
         pending = good .pending ∙ ap (λ n. over K log (spans s (st .sent) n)) same;
       }
@@ -179,12 +181,12 @@ module _ {S R : Type 0} (K : Ghosts S R) (laws : Laws K) where
       let c : Clock = st .clock in
       let c′ : Clock = raised c i t in
       let same : entry c s ≡ entry c′ s =
-          raised-by (λ j n. j ≡ s → entry c s ≡ n) c i t (m .few) (m .small)
-            (λ is.
-              let low : t ≤ report-count i log = m .below in
-              let own : entry c i ≡ report-count i log = subst (λ j. entry c j ≡ report-count j log) (sym is) (good .own) in
-              ap (entry c) (sym is) ∙ omega arith)
-            (λ j other is. ap (entry c) (sym is)) s refl in
+      raised-by (λ j n. j ≡ s → entry c s ≡ n) c i t (m .few) (m .small)
+      (λ is.
+      let low : t ≤ report-count i log = m .below in
+      let own : entry c i ≡ report-count i log = subst (λ j. entry c j ≡ report-count j log) (sym is) (good .own) in
+      ap (entry c) (sym is) ∙ omega arith)
+      (λ j other is. ap (entry c) (sym is)) s refl in
       record {
         named = good .named;
         few = good .few;
@@ -192,9 +194,9 @@ module _ {S R : Type 0} (K : Ghosts S R) (laws : Laws K) where
         below = raised-by (λ j n. n ≤ report-count j log) c i t (m .few) (m .small) (omega (arith, good .below i, m .below)) (λ j other. good .below j);
         held =
             ap (λ x. K .joined x v) (good .held)
-          ∙ ap (K .joined _) (m .held)
-          ∙ sym (over-or K laws log (covers (entry c)) (spans i f t))
-          ∙ over-same K laws log (λ j k. covers (entry c) j k || spans i f t j k) (covers (entry c′)) (λ j k low high. span-joins c i f t k (m .few) (m .small) reaches j);
+            ∙ ap (K .joined _) (m .held)
+            ∙ sym (over-or K laws log (covers (entry c)) (spans i f t))
+            ∙ over-same K laws log (λ j k. covers (entry c) j k || spans i f t j k) (covers (entry c′)) (λ j k low high. span-joins c i f t k (m .few) (m .small) reaches j);
         marked = omega (arith, good .marked);
         pending = good .pending ∙ ap (λ n. over K log (spans s (st .sent) n)) same;
       }

@@ -1,0 +1,3 @@
+// Stations as they are stored, and what one station does by itself.
+pub mod station;
+pub mod table;
