@@ -1,0 +1,3 @@
+// The calls that send a station's messages to a mailbox.
+mod admit;
+pub mod send_full;
