@@ -1,2 +1,3 @@
+pub mod Deltas
 pub mod Fulls
 pub mod Ways
