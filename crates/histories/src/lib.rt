@@ -1,2 +1,2 @@
 // What holds of every history of calls, for every record kind and every mailbox.
-pub mod theorem;
+// pub mod theorem;
