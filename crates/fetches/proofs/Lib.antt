@@ -1,0 +1,3 @@
+pub mod Raises
+pub mod Hears
+pub mod Lifts
