@@ -1,27 +1,26 @@
 -- The ways of a send. Assumes nothing.
-use mathlib.Core.Bool.{Bool, true, false, cond, _&&_}
-use mathlib.Core.List.{List, [], _∷_, _++_, map}
+use mathlib.Core.Bool.{Bool, true, false}
+use mathlib.Core.List.{List, [], _∷_, _++_}
 use mathlib.Core.Logic.{⊎-elim}
 use mathlib.Core.Path.{_≡_, refl, sym, ap, _∙_, subst}
-use Prim.Native.Nat.{ℕ, suc, _+_, _-_, _<_, _≤_, min}
+use Prim.Native.Nat.{ℕ, _+_, _-_, _<_, _≤_, min}
 use native.Mathlib.Omega.{arith}
-use lib.Dec.{ltb, leb, eqb}
-use lib.ListN.{length, take, drop, getD}
+use lib.ListN.{length, take, drop}
 use lib.Seq.{take-at}
-use Rattle.std.proofs.shelf.Tests.{lt-ltb, le-ltb, le-leb, ltb-false, eq-eqb, ne-eqb, and-from, cond-true, cond-false, cases-lt, cases-bool}
+use Rattle.std.proofs.shelf.Tests.{lt-ltb, le-ltb, le-leb, and-from, cond-true, cond-false, cases-lt, cases-bool}
 use Rattle.std.specs.declared.result.Result.{Result}
 use Rattle.std.specs.declared.result.Result.the-variants.{Ok, Err}
 use Rattle.words.specs.declared.refusal.Refusal.{Refusal}
-use Rattle.words.specs.Refusals.{number-of, numbered, bare}
-use Rattle.words.specs.Writes.{most, put}
+use Rattle.words.specs.Refusals.{number-of, numbered}
+use Rattle.words.specs.Writes.{put}
 use Rattle.words.proofs.Writes.{answer-fits, leaves-fits}
 use Rattle.crdt.specs.declared.kind.Crdt.{Ghosts}
 use Rattle.mailboxes.specs.Mailboxes.{Kept, put-answer, put-leaves}
-use Rattle.wire.specs.Messages.{Message, full, delta, Clock, packed, sender-of}
+use Rattle.wire.specs.Messages.{Message, Clock, packed, sender-of}
 use Rattle.wire.specs.Packs.{pack-answer, pack-leaves}
 use Rattle.wire.proofs.Packs.{pack-on}
-use Rattle.histories.specs.Clusters.{Station, entry, found}
-use Rattle.histories.specs.Calls.{posting, emptied, sending-delta, sending-full, appended}
+use Rattle.histories.specs.Clusters.{Station}
+use Rattle.histories.specs.Calls.{posting, appended}
 use Rattle.sends.specs.Sends.{admitted, sent-length, sent-words}
 
 -- what holds of a send, by what came of it

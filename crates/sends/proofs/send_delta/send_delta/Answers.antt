@@ -1,11 +1,9 @@
 use mathlib.Core.List.{map}
-use mathlib.Core.Path.{_≡_, refl, sym, ap, _∙_}
-use Prim.Native.Nat.{_<_}
-use native.Mathlib.Omega.{arith}
+use mathlib.Core.Path.{refl, sym, ap, _∙_}
 use lib.ListN.{length}
 use Rattle.std.proofs.shelf.Lists.{set-getD}
 use Rattle.std.proofs.shelf.Results.{err-from-errBy}
-use Rattle.std.specs.declared.result.Result.the-variants.{Ok, Err}
+use Rattle.std.specs.declared.result.Result.the-variants.{Err}
 use Rattle.words.specs.declared.refusal.Refusal.the-variants as why
 use Rattle.wire.specs.Messages.{packed}
 use Rattle.wire.proofs.Packs.{answered}
@@ -13,8 +11,8 @@ use Rattle.histories.specs.Clusters.{found}
 use Rattle.histories.specs.Calls.{sending-delta, emptied}
 use Rattle.stations.specs.Stored.{station-of}
 use Rattle.sends.proofs.Fulls.{refused-found}
-use Rattle.sends.proofs.Deltas.{Tabled, table-kept, table-changed, stored, low, delta-of, delta-size, delta-nothing, delta-what, settled}
-use Rattle.sends.proofs.Ways.{Sent, turned, made, posting-refused, posting-done, packed-answer, packed-leaves, put-done, put-waits, no-err}
+use Rattle.sends.proofs.Deltas.{table-kept, table-changed, stored, low, delta-of, delta-size, delta-nothing, delta-what, settled}
+use Rattle.sends.proofs.Ways.{turned, made, posting-refused, posting-done, packed-answer, packed-leaves, put-done, put-waits, no-err}
 use Rattle.sends.proofs.send_delta.send_delta.Needs as need
 
 pub returns-in-Break-find : need.returns-in-Break-find

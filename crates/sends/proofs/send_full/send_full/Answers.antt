@@ -1,15 +1,15 @@
 use mathlib.Core.List.{map}
-use mathlib.Core.Path.{_≡_, sym, ap, _∙_}
+use mathlib.Core.Path.{ap, _∙_}
 use lib.ListN.{length}
 use Rattle.std.proofs.shelf.Results.{err-from-errBy}
-use Rattle.std.specs.declared.result.Result.the-variants.{Ok, Err}
+use Rattle.std.specs.declared.result.Result.the-variants.{Err}
 use Rattle.wire.specs.Messages.{packed}
 use Rattle.wire.proofs.Packs.{answered}
 use Rattle.histories.specs.Clusters.{found}
 use Rattle.histories.specs.Calls.{sending-full}
 use Rattle.stations.specs.Stored.{station-of}
 use Rattle.sends.proofs.Fulls.{refused-found, near, full-of, full-size, full-what}
-use Rattle.sends.proofs.Ways.{Sent, turned, made, posting-refused, posting-done, packed-answer, packed-leaves, put-done, put-waits, no-err}
+use Rattle.sends.proofs.Ways.{turned, made, posting-refused, posting-done, packed-answer, packed-leaves, put-done, put-waits, no-err}
 use Rattle.sends.proofs.send_full.send_full.Needs as need
 
 pub returns-in-Break-find : need.returns-in-Break-find

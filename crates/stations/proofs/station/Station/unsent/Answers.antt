@@ -1,7 +1,6 @@
-use mathlib.Core.Path.{_≡_, sym, ap, _∙_}
+use mathlib.Core.Path.{ap, _∙_}
 use lib.Dec.{ltb, leb}
 use mathlib.Core.Bool.{_&&_}
-use Prim.Native.Nat.{min}
 use Rattle.counters.specs.Counts.{clock-of}
 use Rattle.histories.specs.Clusters.{entry}
 use Rattle.histories.proofs.Clocks.{entry-low}
