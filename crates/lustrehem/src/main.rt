@@ -1,32 +1,44 @@
-// A day at three stations that look after the cards of one family. Their messages wait on a card's pages; power is lost, and
-// the same bytes are mounted again. One message comes twice, one is overtaken by a newer one, one comes late, and one is damaged.
+// A day at three stations that look after the cards of one family: a history of calls, on messages that wait on a card's pages.
+// One message is lost, one comes twice, one is overtaken by a newer one. Then power is lost, the same bytes are mounted again,
+// and a damaged copy and an image in the other byte order are refused.
+mod day;
+mod image;
 mod show;
-mod station;
 
+use crate::day::calls;
+use crate::image::damaged_copy;
+use crate::image::list_messages;
+use crate::image::other_order;
+use crate::show::AnswerOf;
+use crate::show::AnswerOfDisplay;
+use crate::show::CallOf;
+use crate::show::CallOfDisplay;
 use crate::show::CountsOf;
 use crate::show::CountsOfDisplay;
-use crate::show::Found;
-use crate::show::FoundDisplay;
-use crate::station::Station;
-use crate::station::fresh;
-use crate::station::report;
-use crate::station::send_delta;
-use crate::station::send_full;
-use crate::station::take;
-use crate::station::take_damaged;
 use cards::card_record;
+use cards::card_record::CardRecord;
+use cards::card_record::CardReport;
 use cards::verdict::Verdict;
 use cards::verdict::judge;
-use counters::g_counter::Amount;
-use mailboxes::mailbox::Mailbox;
+use counters::g_counter::GCounterCrdt;
+use counters::vector_clock::VectorClockCrdt;
+use crdt::kind::Crdt;
+use crdt::pair::PairCrdt;
 use page_mailbox::PageMailbox;
 use page_mailbox::calls::PageMailboxMailbox;
-use registers::gset::Member;
-use registers::max_register::Revision;
+use registers::gset::GSetCrdt;
+use registers::max_register::MaxRegisterCrdt;
+use replication::answer::Answer;
+use replication::call::Call;
+use replication::replay::replay;
+use stations::station::Station;
 use std::error::AnyError;
 
 // How many erased blocks the family is rated for.
 const RATED: u32 = 60;
+
+// How many calls were made by noon.
+const NOON: usize = 19;
 
 fn main(rt: LibcRuntime) -> Result<(), AnyError> {
     rt.report(run(&rt))
@@ -37,91 +49,66 @@ fn run(rt: &LibcRuntime) -> Result<(), AnyError> {
         rt,
         "card family LX-4, rated for {RATED} erased blocks, at three stations"
     )?;
-    let mut zero = fresh(0);
-    let mut one = fresh(1);
-    let mut two = fresh(2);
+    let calls = calls();
     let mut image = [0u8; 4096];
-    {
-        let mut mailbox = PageMailbox::wipe(&mut image);
-        work(rt, &mut zero, &mut one, &mut two, &mut mailbox)?;
-    }
-    println!(rt, "power is lost; the same bytes are mounted again")?;
-    {
-        let mailbox = PageMailbox::mount(&mut image);
-        deliver(rt, &mut zero, &mut two, &mailbox)?;
-        decide(rt, &zero)?;
-        deliver_late(rt, &mut zero, &mut one, &mailbox)?;
-    }
-    println!(rt, "all have everything")?;
-    decide(rt, &zero)?;
-    decide(rt, &one)?;
-    decide(rt, &two)?;
-    swap(rt, &mut image)
-}
-
-// What the stations do by themselves, and what they send.
-fn work<M: Mailbox>(
-    rt: &LibcRuntime,
-    zero: &mut Station,
-    one: &mut Station,
-    two: &mut Station,
-    mailbox: &mut M,
-) -> Result<(), AnyError> {
-    report(rt, zero, "erased 5", card_record::erased(Amount(5)))?;
-    report(rt, zero, "erased 2", card_record::erased(Amount(2)))?;
-    send_delta(rt, zero, mailbox)?;
-    report(rt, one, "erased 30", card_record::erased(Amount(30)))?;
-    report(rt, one, "taken 3", card_record::taken(Amount(3)))?;
-    send_full(rt, one, mailbox)?;
-    report(rt, one, "erased 12", card_record::erased(Amount(12)))?;
-    send_full(rt, one, mailbox)?;
-    report(rt, two, "erased 19", card_record::erased(Amount(19)))?;
-    report(rt, two, "erased 0", card_record::erased(Amount(0)))?;
-    report(rt, two, "returned 5", card_record::returned(Amount(5)))?;
-    report(rt, two, "retired 17", card_record::retired(Member(17)))?;
-    report(
+    let mut stations = [blank(), blank(), blank()];
+    history(&mut stations, &mut image, &calls[0..NOON], None)?;
+    println!(rt, "by noon, after {NOON} calls:")?;
+    decide(rt, &stations[0])?;
+    println!(rt, "the whole day:")?;
+    history(&mut stations, &mut image, &calls, Some(rt))?;
+    println!(
         rt,
-        two,
-        "firmware 1041",
-        card_record::firmware(Revision(1041)),
+        "who has fetched a late full message from all others has everything:"
     )?;
-    send_full(rt, two, mailbox)
+    decide(rt, &stations[0])?;
+    decide(rt, &stations[1])?;
+    decide(rt, &stations[2])?;
+    println!(rt, "power is lost; the same bytes are mounted again:")?;
+    list_messages(rt, &mut image)?;
+    damaged_copy(rt, &mut stations, &mut image)?;
+    other_order(rt, &mut image)
 }
 
-// One message comes twice, and one is overtaken.
-fn deliver<M: Mailbox>(
-    rt: &LibcRuntime,
-    zero: &mut Station,
-    two: &mut Station,
-    mailbox: &M,
-) -> Result<(), AnyError> {
-    let waiting = mailbox.count();
-    println!(rt, "{waiting} messages wait")?;
-    take(rt, two, mailbox, 0)?;
-    take(rt, two, mailbox, 0)?;
-    take(rt, zero, mailbox, 2)?;
-    take(rt, zero, mailbox, 1)?;
-    take(rt, two, mailbox, 2)
+// A station that is not made fresh yet.
+fn blank() -> Station<CardRecord> {
+    Station {
+        number: 0,
+        clock: VectorClockCrdt::bottom(),
+        record: PairCrdt::bottom(),
+        pending: PairCrdt::bottom(),
+        sent: 0,
+    }
 }
 
-// The message of station 2 comes weeks later, first as a damaged copy.
-fn deliver_late<M: Mailbox>(
-    rt: &LibcRuntime,
-    zero: &mut Station,
-    one: &mut Station,
-    mailbox: &M,
+// Runs calls on a wiped image, and prints each with its answer where it is given the runtime.
+fn history(
+    stations: &mut [Station<CardRecord>],
+    image: &mut [u8; 4096],
+    calls: &[Call<CardReport>],
+    rt: Option<&LibcRuntime>,
 ) -> Result<(), AnyError> {
-    println!(rt, "weeks later, first as a damaged copy")?;
-    take_damaged(rt, zero, mailbox, 3)?;
-    take(rt, zero, mailbox, 3)?;
-    take(rt, one, mailbox, 3)?;
-    take(rt, one, mailbox, 0)
+    let mut mailbox = PageMailbox::wipe(image);
+    let mut answers = [Answer::Done; 30];
+    let mut words = [0; 127];
+    if replay(stations, &mut mailbox, calls, &mut answers, &mut words).is_err() {
+        return Err("the calls were not begun".into());
+    }
+    if let Some(rt) = rt {
+        for (call, answer) in calls.iter().zip(answers.iter()) {
+            let call = CallOf(call);
+            let answer = AnswerOf(answer);
+            println!(rt, "  {call}: {answer}")?;
+        }
+    }
+    Ok(())
 }
 
 // A station says what it holds, and what becomes of the family.
-fn decide(rt: &LibcRuntime, station: &Station) -> Result<(), AnyError> {
+fn decide(rt: &LibcRuntime, station: &Station<CardRecord>) -> Result<(), AnyError> {
     let number = station.number;
-    let card = &station.card;
+    let clock = CountsOf(&station.clock.counts);
+    let card = &station.record;
     let erased = CountsOf(&card.left.left.counts);
     let total = card_record::total_erased(card);
     let net = card_record::net_spares(card);
@@ -129,7 +116,7 @@ fn decide(rt: &LibcRuntime, station: &Station) -> Result<(), AnyError> {
     let firmware = card_record::highest_firmware(card);
     println!(
         rt,
-        "station {number}: erased {erased}, net {net}, retired groups {groups}, firmware {firmware}"
+        "  station {number}: clock {clock}, erased {erased}, net {net}, retired groups {groups}, firmware {firmware}"
     )?;
     let verdict = match judge(total, RATED) {
         Verdict::Pulled => "pulled",
@@ -137,27 +124,7 @@ fn decide(rt: &LibcRuntime, station: &Station) -> Result<(), AnyError> {
     };
     println!(
         rt,
-        "station {number}: total erased {total} of {RATED}: {verdict}"
+        "  station {number}: total erased {total} of {RATED}: {verdict}"
     )?;
-    Ok(())
-}
-
-// The same image as a station of the other byte order would have written it.
-fn swap(rt: &LibcRuntime, image: &mut [u8; 4096]) -> Result<(), AnyError> {
-    for i in 0..1024 {
-        let first = image[4 * i];
-        let second = image[4 * i + 1];
-        image[4 * i] = image[4 * i + 3];
-        image[4 * i + 1] = image[4 * i + 2];
-        image[4 * i + 2] = second;
-        image[4 * i + 3] = first;
-    }
-    match PageMailbox::check(image) {
-        Ok(count) => println!(rt, "the image in the other byte order has {count} messages")?,
-        Err(fault) => {
-            let found = Found(fault);
-            println!(rt, "the image in the other byte order is refused: {found}")?;
-        }
-    }
     Ok(())
 }

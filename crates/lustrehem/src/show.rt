@@ -1,4 +1,8 @@
 // How the program prints words, counts and faults.
+use cards::card_record::CardReport;
+use crdt::pair::Side;
+use replication::answer::Answer;
+use replication::call::Call;
 use std::fmt;
 use words::fault::Fault;
 use words::fault::Layer;
@@ -38,6 +42,77 @@ pub(crate) impl fmt::Display for CountsOf<'_> as CountsOfDisplay {
             }
         }
         write!(f, "}}")
+    }
+}
+
+// A call of the day.
+#[derive(Clone, Copy)]
+pub(crate) struct CallOf<'a>(pub(crate) &'a Call<CardReport>);
+
+pub(crate) impl fmt::Display for CallOf<'_> as CallOfDisplay {
+    fn fmt<W: fmt::Write>(&self, f: &mut fmt::Formatter<W>) -> fmt::Result {
+        match *self.0 {
+            Call::Report { station, report } => {
+                let report = ReportOf(report);
+                write!(f, "station {station} reports {report}")
+            }
+            Call::SendDelta { station } => write!(f, "station {station} sends a delta"),
+            Call::SendFull { station } => write!(f, "station {station} sends all"),
+            Call::Fetch { station, message } => write!(
+                f,
+                "station {station} fetches message {message}"
+            ),
+            Call::Discard { message } => write!(f, "message {message} is discarded"),
+            Call::Count => write!(f, "count"),
+            Call::Fits { len } => write!(f, "fits {len}"),
+            Call::Read { message } => write!(f, "read {message}"),
+        }
+    }
+}
+
+// A report on a card record.
+#[derive(Clone, Copy)]
+struct ReportOf(CardReport);
+
+impl fmt::Display for ReportOf as ReportOfDisplay {
+    fn fmt<W: fmt::Write>(&self, f: &mut fmt::Formatter<W>) -> fmt::Result {
+        match self.0 {
+            Side::Left(blocks) => match blocks {
+                Side::Left(erased) => write!(f, "erased {}", erased.0),
+                Side::Right(spares) => match spares {
+                    Side::Left(taken) => write!(f, "taken {}", taken.0),
+                    Side::Right(returned) => write!(f, "returned {}", returned.0),
+                },
+            },
+            Side::Right(state) => match state {
+                Side::Left(group) => write!(f, "retired {}", group.0),
+                Side::Right(revision) => write!(f, "firmware {}", revision.0),
+            },
+        }
+    }
+}
+
+// An answer.
+#[derive(Clone, Copy)]
+pub(crate) struct AnswerOf<'a>(pub(crate) &'a Answer);
+
+pub(crate) impl fmt::Display for AnswerOf<'_> as AnswerOfDisplay {
+    fn fmt<W: fmt::Write>(&self, f: &mut fmt::Formatter<W>) -> fmt::Result {
+        match *self.0 {
+            Answer::Done => write!(f, "done"),
+            Answer::Number(n) => write!(f, "{n}"),
+            Answer::Fits(true) => write!(f, "yes"),
+            Answer::Fits(false) => write!(f, "no"),
+            Answer::Refused(refusal) => {
+                let number = refusal.number();
+                let meaning = meaning_of(refusal);
+                write!(f, "refused, {number} ({meaning})")
+            }
+            Answer::Faulted(fault) => {
+                let found = Found(fault.fault);
+                write!(f, "refused, {found}")
+            }
+        }
     }
 }
 

@@ -6,6 +6,8 @@ mod clock;
 #[cfg(test)]
 mod counter;
 #[cfg(test)]
+mod history;
+#[cfg(test)]
 mod mailbox;
 #[cfg(test)]
 mod message;
