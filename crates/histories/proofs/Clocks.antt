@@ -1,10 +1,10 @@
 -- The entries of clocks: of the larger of two, of a raised one, of the empty one. Assumes nothing.
 use mathlib.Core.Path.{_≡_, refl, sym, ap, subst, _∙_}
 use mathlib.Core.Bool.{cond}
-use mathlib.Core.List.{List, []}
+use mathlib.Core.List.{[]}
 use mathlib.Core.Logic.{inl, inr, _≢_}
-use Prim.Native.Nat.{ℕ, _+_, _%_, _≤_, _<_, max}
-use native.Mathlib.Nat.{mod-eq-of-lt, zero-mod}
+use Prim.Native.Nat.{ℕ, _%_, _≤_, _<_, max}
+use native.Mathlib.Nat.{mod-eq-of-lt}
 use native.Mathlib.Omega.{arith}
 use lib.Dec.{eqb}
 use lib.ListN.{getD}

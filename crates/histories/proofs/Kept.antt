@@ -1,28 +1,24 @@
 -- What every history keeps: the invariant, and each call that keeps it. Assumes nothing.
 use mathlib.Core.Path.{_≡_, refl, sym, ap, subst, _∙_}
-use mathlib.Core.Bool.{Bool, true, false, cond}
 use mathlib.Core.List.{List, [], _∷_, _++_}
 use mathlib.Core.Logic.{_≢_}
 use Prim.Native.Nat.{ℕ, suc, _≤_, _<_}
 use native.Mathlib.Omega.{arith}
-use lib.Dec.{ltb, eqb}
+use lib.Dec.{eqb}
 use lib.ListN.{length, getD, set, length-set}
-use Rattle.std.specs.declared.result.Result.{Result}
-use Rattle.std.specs.declared.result.Result.the-variants.{Ok, Err}
 use Rattle.std.specs.shelf.Lists.{removed}
-use Rattle.std.proofs.shelf.Tests.{ltb-true, ne-eqb, cond-false}
-use Rattle.words.specs.Readings.{Told}
+use Rattle.std.proofs.shelf.Tests.{ne-eqb, cond-false}
 use Rattle.words.specs.Refusals.{value-or}
 use Rattle.crdt.specs.declared.kind.Crdt.{Ghosts}
 use Rattle.mailboxes.specs.Mailboxes.{counted}
-use Rattle.wire.specs.Messages.{Message, full, delta, Clock, packed, Sendable}
-use Rattle.histories.specs.Clusters.{Station, Cluster, entry, fresh, found}
-use Rattle.histories.specs.Calls.{Call, report, send-delta, send-full, fetch, discard, count, fits, peek, Answer, done-if, sent-if, fetched-if, changed, changed-too, appended, reporting, emptied, sending-delta, sending-full, hearing-opened, fetching, answered, Step}
-use Rattle.histories.specs.Histories.{Event, did, History, Accepted, Origin, as-full, as-delta, report-count, covered, join-of, end, origins, station, Lawful, clock-of, reports, Fresh}
+use Rattle.wire.specs.Messages.{Message, full, delta, Clock, Sendable}
+use Rattle.histories.specs.Clusters.{Station, Cluster, entry, fresh}
+use Rattle.histories.specs.Calls.{emptied, hearing-opened}
+use Rattle.histories.specs.Histories.{History, Accepted, Origin, as-full, as-delta, report-count, covered, join-of, station, reports}
 use Rattle.histories.proofs.Clocks.{entry-low}
 use Rattle.histories.proofs.Overs.{Laws, Numbered, join-covered}
-use Rattle.histories.proofs.Sound.{Sound, Sound-message, fresh-sound, grown, full-sound, delta-sound, emptied-sound, report-sound, fetch-sound, with-report, with-message}
-use Rattle.histories.proofs.Outcomes.{Found, Reported, reported-was, Posted, Sent-delta, delta-was-sent, Sent-full, full-was-sent, Fetched, fetched-was, heard-was}
+use Rattle.histories.proofs.Sound.{Sound, grown, full-sound, delta-sound, emptied-sound, report-sound, fetch-sound, with-report, with-message}
+use Rattle.histories.proofs.Outcomes.{Found, Reported, Sent-delta, Sent-full, Fetched, heard-was}
 use Rattle.histories.proofs.Mails.{pushed, removed-both, set-all, Mail, Mails, mails-push, mails-removed, mail-grown}
 
 module _ {S R : Type 0} (K : Ghosts S R) (laws : Laws K) (start : Cluster (K .Value)) (n : ℕ) where

@@ -7,3 +7,4 @@ pub mod Kept
 pub mod Steps
 pub mod Rises
 pub mod Moments
+pub mod Promised

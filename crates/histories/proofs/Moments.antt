@@ -1,33 +1,28 @@
 -- What holds at each moment of a history: records are joins, clocks rise, and full messages are taken. Assumes nothing.
 use mathlib.Core.Path.{_≡_, refl, sym, ap, subst, _∙_}
-use mathlib.Core.Bool.{cond, _||_}
+use mathlib.Core.Bool.{_||_}
 use mathlib.Core.List.{List, [], _∷_, _++_}
 use mathlib.Core.Logic.{_⊎_, inl, inr}
-use Prim.Native.Nat.{ℕ, _≤_, _<_, max}
+use Prim.Native.Nat.{ℕ, _≤_, _<_}
 use native.Mathlib.Omega.{arith}
 use lib.Dec.{ltb, leb}
-use lib.ListN.{length, getD, set}
-use Rattle.std.proofs.shelf.Lists.{getD-set-same}
-use Rattle.std.proofs.shelf.Tests.{cases-eq, cases-lt, cond-true, cond-false, le-leb, le-ltb, lt-ltb}
+use lib.ListN.{length, getD}
+use Rattle.std.proofs.shelf.Tests.{cond-true, cond-false, le-ltb, lt-ltb}
 use Rattle.std.proofs.shelf.Ways.{tells}
-use Rattle.std.specs.declared.result.Result.{Result}
-use Rattle.std.specs.declared.result.Result.the-variants.{Ok, Err}
-use Rattle.words.specs.Readings.{Told}
+use Rattle.std.specs.declared.result.Result.the-variants.{Ok}
 use Rattle.words.specs.Writes.{most}
 use Rattle.crdt.specs.declared.kind.Crdt.{Ghosts}
 use Rattle.mailboxes.specs.Mailboxes.{counted}
 use Rattle.wire.specs.Messages.{Message, full, delta, Clock}
 use Rattle.wire.specs.Openings.{unpacked}
-use Rattle.histories.specs.Clusters.{Station, Cluster, entry, fresh, found}
-use Rattle.histories.specs.Calls.{report, send-delta, send-full, fetch, discard, count, fits, peek, Answer, done, number, room-for, refused, faulted, fetched-if, changed, hearing, hearing-opened, fetching, answered, Step}
-use Rattle.histories.specs.Histories.{Event, did, History, Accepted, Origin, as-full, as-delta, origin, report-count, covered, join-of, end, station, Lawful, clock-of, held-by, reports, Fresh}
-use Rattle.histories.specs.Promises.{Caught-up, Gathered, Covers-all}
-use Rattle.histories.proofs.Clocks.{entry-larger}
-use Rattle.histories.proofs.Overs.{Laws, covers, over, join-covered, numbered-le, count-le, over-or, over-same}
+use Rattle.histories.specs.Clusters.{Station, Cluster, entry, found}
+use Rattle.histories.specs.Calls.{report, send-delta, send-full, fetch, discard, count, fits, peek, done, number, room-for, refused, faulted, fetched-if, hearing-opened, fetching, answered}
+use Rattle.histories.specs.Histories.{Event, did, History, Accepted, Origin, as-full, origin, report-count, covered, join-of, end, Lawful, clock-of, held-by, reports, Fresh}
+use Rattle.histories.proofs.Overs.{Laws, covers, over, join-covered, count-le, over-or, over-same}
 use Rattle.histories.proofs.Sound.{Sound-full, Sound-message, covers-grown, with-message}
-use Rattle.histories.proofs.Outcomes.{found-was, fetched-was, heard-was}
+use Rattle.histories.proofs.Outcomes.{found-was}
 use Rattle.histories.proofs.Mails.{Full-at, From, Mail}
-use Rattle.histories.proofs.Kept.{Good, found-sound}
+use Rattle.histories.proofs.Kept.{found-sound}
 use Rattle.histories.proofs.Steps.{Kept, kept}
 use Rattle.histories.proofs.Rises.{rises}
 
@@ -78,7 +73,7 @@ module _ {S R : Type 0} (K : Ghosts S R) (laws : Laws K) (start : Cluster (K .Va
     pub sound : Sound-full K log clock held
     pub sent : entry clock i ≡ report-count i (reports K start g)
 
-  full-mail : (o : Origin (K .Value) R) (i : ℕ) (g : History (K .Value) R) → o ≡ as-full i g → (log : List (Accepted (K .Value))) (w : List ℕ) → Mail K start log o w → Full-mail log w i g
+  pub full-mail : (o : Origin (K .Value) R) (i : ℕ) (g : History (K .Value) R) → o ≡ as-full i g → (log : List (Accepted (K .Value))) (w : List ℕ) → Mail K start log o w → Full-mail log w i g
   full-mail o i g is log w mail = go (mail .message) (mail .opens) (mail .sound) (subst (λ x. From K start x (mail .message)) is (mail .came))
     where
       go : (m : Message Clock (K .Value)) → unpacked K w ≡ Ok m → Sound-message K log m → Full-at i (report-count i (reports K start g)) m → Full-mail log w i g
@@ -86,7 +81,7 @@ module _ {S R : Type 0} (K : Ghosts S R) (laws : Laws K) (start : Cluster (K .Va
       go (delta j f t v) opens sound at-i = absurd at-i
 
   module _ (n : ℕ) (blank : Fresh K n start) where
-    joins-over : (h : History (K .Value) R) → Lawful K start h → (s : ℕ) → s < n → held-by K start h s ≡ over K (reports K start h) (covers (entry (clock-of K start h s)))
+    pub joins-over : (h : History (K .Value) R) → Lawful K start h → (s : ℕ) → s < n → held-by K start h s ≡ over K (reports K start h) (covers (entry (clock-of K start h s)))
     joins-over h lawful s low = kept K laws start n blank h lawful .stations s low .held
 
     pub joins : (h : History (K .Value) R) → Lawful K start h → (s : ℕ) → s < n → held-by K start h s ≡ join-of K (covered (clock-of K start h s) (reports K start h))
@@ -145,7 +140,7 @@ module _ {S R : Type 0} (K : Ghosts S R) (laws : Laws K) (start : Cluster (K .Va
         ∙ cond-false (ltb (entry (st .clock) s) (entry (m .clock) s)) _ _ (le-ltb _ _ low) in
         ap (fetched-if s k (length (getD ws k []))) takes
 
-    rises-later : (later h : History (K .Value) R) → Lawful K start (later ++ h) → (s j : ℕ) → s < n → entry (clock-of K start h s) j ≤ entry (clock-of K start (later ++ h) s) j
+    pub rises-later : (later h : History (K .Value) R) → Lawful K start (later ++ h) → (s j : ℕ) → s < n → entry (clock-of K start h s) j ≤ entry (clock-of K start (later ++ h) s) j
     rises-later [] h lawful s j low = omega arith
     rises-later (did c a y ∷ later) h lawful s j low =
         omega (arith, rises-later later h (lawful .1) s j low, rises K n (end start (later ++ h)) y (kept K laws start n blank (later ++ h) (lawful .1) .size) c a (lawful .0) s low j)

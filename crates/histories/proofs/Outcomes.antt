@@ -1,24 +1,22 @@
 -- What is so where a call is done: the ways of its tests, taken back. Assumes nothing.
 use mathlib.Core.Path.{_≡_, refl, sym, ap, _∙_}
-use mathlib.Core.Bool.{Bool, true, false, cond, _&&_}
+use mathlib.Core.Bool.{Bool, true, false, cond}
 use mathlib.Core.List.{List, [], _∷_}
 use mathlib.Core.Logic.{_≢_}
 use Prim.Native.Nat.{ℕ, zero, suc, _≤_, _<_}
 use native.Mathlib.Omega.{arith}
-use lib.Dec.{ltb, leb, eqb}
 use lib.ListN.{length, getD}
 use Rattle.std.proofs.shelf.Tests.{ltb-true, ltb-false, leb-false, eqb-true, eqb-false}
 use Rattle.std.specs.declared.result.Result.{Result}
 use Rattle.std.specs.declared.result.Result.the-variants.{Ok, Err}
 use Rattle.words.specs.declared.fault.Layer.the-variants as layer
-use Rattle.words.specs.Readings.{Told}
 use Rattle.words.specs.Writes.{most}
 use Rattle.crdt.specs.declared.kind.Crdt.{Ghosts}
 use Rattle.mailboxes.specs.Mailboxes.{counted}
 use Rattle.wire.specs.Messages.{Message, full, delta, Clock, packed}
 use Rattle.wire.specs.Openings.{unpacked}
 use Rattle.histories.specs.Clusters.{Station, entry, at-place, bearing, found}
-use Rattle.histories.specs.Calls.{plainly, gap, with-delta, reporting, posting, emptied, sending-delta, sending-full, hearing, hearing-opened, fetching}
+use Rattle.histories.specs.Calls.{plainly, with-delta, reporting, posting, emptied, sending-delta, sending-full, hearing, hearing-opened, fetching}
 use Rattle.histories.proofs.Sound.{with-report, with-message, Reaches}
 
 module _ {X E : Type 0} where
@@ -51,13 +49,13 @@ pub record Found {V : Type 0} (ts : List (Station V)) (s : ℕ) (st : Station V)
 module _ {S R : Type 0} (K : Ghosts S R) where
   bearing-was : (s : ℕ) (x : Result (Station (K .Value)) ℕ) (st : Station (K .Value)) → bearing K s x ≡ Ok st → (st .number ≡ s) × (x ≡ Ok st)
   bearing-was s (Ok x) st e =
-      let p = passes-else (eqb (x .number) s) 1 (Ok x) st e in
+      let p = passes-else _ _ _ st e in
       (ap (λ (y : Station (K .Value)). y .number) (sym (ok-same x st (p .1))) ∙ eqb-true (x .number) s (p .0), p .1)
   bearing-was s (Err n) st e = never-ok n st e
 
   pub found-was : (ts : List (Station (K .Value))) (s : ℕ) (st : Station (K .Value)) → found K ts s ≡ Ok st → Found ts s st
   found-was ts s st e =
-      let p = passes (ltb 16 (length ts)) 1 (bearing K s (at-place ts s)) st e in
+      let p = passes _ _ _ st e in
       let q = bearing-was s (at-place ts s) st (p .1) in
       let r = placed ts s st (q .1) in
       record { few = ltb-false 16 (length ts) (p .0); within = r .0; named = q .0; here = r .1 }
@@ -78,7 +76,7 @@ module _ {S R : Type 0} (K : Ghosts S R) where
 
     report-was : (x : Result (Station (K .Value)) ℕ) → found K ts s ≡ x → reporting K s r x ≡ Ok after → Reported ts s r after
     report-was (Ok st) is e =
-        let p = passes (leb 65535 (entry (st .clock) s)) 4 (with-delta K s st (K .reported (st .held) s r)) after e in
+        let p = passes _ _ _ after e in
         delta-was st (K .reported (st .held) s r) (found-was ts s st is) (leb-false 65535 (entry (st .clock) s) (p .0)) refl (p .1)
     report-was (Err n) is e = never-ok n after e
 
@@ -94,8 +92,8 @@ module _ {S R : Type 0} (K : Ghosts S R) where
   posted-was : (takes : ℕ → Bool) (m : Message Clock (K .Value)) (st : Station (K .Value)) (put : List ℕ × Station (K .Value)) → posting K takes m st ≡ Ok put → Posted m st put
   posted-was takes m st put e =
       let n : ℕ = length (packed K m) in
-      let p = passes (ltb most n) 7 (cond (takes n) (Ok (packed K m, st)) (Err 8)) put e in
-      let q = passes-else (takes n) 8 (Ok (packed K m, st)) put (p .1) in
+      let p = passes _ _ _ put e in
+      let q = passes-else _ _ _ put (p .1) in
       let same : (packed K m, st) ≡ put = ok-same (packed K m, st) put (q .1) in
       record { short = ltb-false most n (p .0); words = ap (λ (x : List ℕ × Station (K .Value)). x .0) (sym same); leaves = ap (λ (x : List ℕ × Station (K .Value)). x .1) (sym same) }
 
@@ -114,9 +112,8 @@ module _ {S R : Type 0} (K : Ghosts S R) where
     delta-sent : (x : Result (Station (K .Value)) ℕ) → found K ts s ≡ x → sending-delta K takes s room x ≡ Ok put → Sent-delta ts s put
     delta-sent (Ok st) is e =
         let m : Message Clock (K .Value) = delta s (st .sent) (entry (st .clock) s) (st .pending) in
-        let q : Result (List ℕ × Station (K .Value)) ℕ = posting K takes m (emptied K s st) in
-        let p = passes (ltb room most) 6 (cond (eqb (st .sent) (entry (st .clock) s)) (Err 5) q) put e in
-        let r = passes (eqb (st .sent) (entry (st .clock) s)) 5 q put (p .1) in
+        let p = passes _ _ _ put e in
+        let r = passes _ _ _ put (p .1) in
         record { before = st; known = found-was ts s st is; some = eqb-false _ _ (r .0); posted = posted-was takes m (emptied K s st) put (r .1) }
     delta-sent (Err n) is e = never-ok n put e
 
@@ -126,7 +123,7 @@ module _ {S R : Type 0} (K : Ghosts S R) where
     full-sent : (x : Result (Station (K .Value)) ℕ) → found K ts s ≡ x → sending-full K takes s room x ≡ Ok put → Sent-full ts s put
     full-sent (Ok st) is e =
         let m : Message Clock (K .Value) = full s (st .clock) (st .held) in
-        let p = passes (ltb room most) 6 (posting K takes m st) put e in
+        let p = passes _ _ _ put e in
         record { before = st; known = found-was ts s st is; posted = posted-was takes m st put (p .1) }
     full-sent (Err n) is e = never-ok n put e
 
@@ -143,9 +140,8 @@ module _ {S R : Type 0} (K : Ghosts S R) where
   module _ (ws : List (List ℕ)) (ts : List (Station (K .Value))) (s k room : ℕ) (after : Station (K .Value)) where
     fetch-was : (x : Result (Station (K .Value)) ℕ) → found K ts s ≡ x → fetching K ws s k room x ≡ Ok after → Fetched ws ts s k after
     fetch-was (Ok st) is e =
-        let o : Result (Station (K .Value)) Told = hearing-opened K s st (unpacked K (getD ws k [])) in
-        let p = passes (ltb room most) (plainly layer.Mailbox 6) (cond (ltb k (counted ws)) o (Err (plainly layer.Mailbox 9))) after e in
-        let q = passes-else (ltb k (counted ws)) (plainly layer.Mailbox 9) o after (p .1) in
+        let p = passes _ _ _ after e in
+        let q = passes-else _ _ _ after (p .1) in
         record { before = st; known = found-was ts s st is; waits = ltb-true k (counted ws) (q .0); heard = q .1 }
     fetch-was (Err n) is e = never-ok (plainly layer.Station n) after e
 
@@ -153,11 +149,8 @@ module _ {S R : Type 0} (K : Ghosts S R) where
     fetched-was e = fetch-was (found K ts s) refl e
 
   pub heard-was : (s : ℕ) (st : Station (K .Value)) (m : Message Clock (K .Value)) (after : Station (K .Value)) → hearing K s st m ≡ Ok after → Reaches st m × (after ≡ with-message K m st)
-  heard-was s st (full i c v) after e =
-      let p = passes (ltb (entry (st .clock) s) (entry c s)) (plainly layer.Station 15) (Ok (with-message K (full i c v) st)) after e in
-      (tt, sym (ok-same _ after (p .1)))
+  heard-was s st (full i c v) after e = let p = passes _ _ _ after e in (tt, sym (ok-same _ after (p .1)))
   heard-was s st (delta i f t v) after e =
-      let x : Result (Station (K .Value)) Told = Ok (with-message K (delta i f t v) st) in
-      let p = passes (eqb i s && ltb (entry (st .clock) s) t) (plainly layer.Station 15) (cond (ltb (entry (st .clock) i) f) (Err gap) x) after e in
-      let q = passes (ltb (entry (st .clock) i) f) gap x after (p .1) in
+      let p = passes _ _ _ after e in
+      let q = passes _ _ _ after (p .1) in
       (ltb-false (entry (st .clock) i) f (q .0), sym (ok-same _ after (q .1)))

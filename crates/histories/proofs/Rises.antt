@@ -1,7 +1,6 @@
 -- No call lowers an entry of any clock. Assumes nothing.
 use mathlib.Core.Path.{_≡_, refl, sym, subst}
-use mathlib.Core.Bool.{Bool}
-use mathlib.Core.List.{List, [], _∷_, _++_}
+use mathlib.Core.List.{List, []}
 use Prim.Native.Nat.{ℕ, _+_, _≤_, _<_}
 use native.Mathlib.Omega.{arith}
 use lib.ListN.{length, getD, set}
@@ -13,10 +12,10 @@ use Rattle.counters.specs.Counts.{only}
 use Rattle.wire.specs.Messages.{Message, full, delta, Clock}
 use Rattle.wire.specs.Openings.{unpacked}
 use Rattle.histories.specs.Clusters.{Station, Cluster, entry, raised, fresh, found}
-use Rattle.histories.specs.Calls.{Call, report, send-delta, send-full, fetch, discard, count, fits, peek, Answer, changed, changed-too, reporting, emptied, sending-delta, hearing-opened, fetching, Step}
+use Rattle.histories.specs.Calls.{Call, report, send-delta, send-full, fetch, discard, count, fits, peek, Answer, changed, changed-too, reporting, sending-delta, hearing-opened, fetching, Step}
 use Rattle.histories.specs.Histories.{station}
 use Rattle.histories.proofs.Clocks.{entry-larger}
-use Rattle.histories.proofs.Sound.{with-report, with-message}
+use Rattle.histories.proofs.Sound.{with-message}
 use Rattle.histories.proofs.Outcomes.{never-ok, Found, reported-was, delta-was-sent, fetched-was, heard-was}
 use Rattle.histories.proofs.Mails.{set-all}
 

@@ -1,19 +1,20 @@
 -- Stations and messages that tell the truth of a list of reports, and how each call keeps them so. Assumes nothing.
 use mathlib.Core.Path.{_≡_, refl, sym, ap, subst, _∙_}
-use mathlib.Core.Bool.{Bool, true, false, cond, _&&_, _||_}
+use mathlib.Core.Bool.{Bool, _&&_, _||_}
 use mathlib.Core.List.{List, [], _∷_}
 use mathlib.Core.Logic.{inl, inr, _≢_}
-use Prim.Native.Nat.{ℕ, suc, _+_, _≤_, _<_, max}
+use Prim.Native.Nat.{ℕ, suc, _+_, _≤_, _<_}
 use native.Mathlib.Omega.{arith}
 use lib.Dec.{ltb, leb, eqb}
 use Rattle.std.proofs.shelf.Tests.{cond-false, ne-eqb, lt-leb, le-leb, cases-eq}
 use Rattle.std.proofs.shelf.Ways.{tells}
+use Rattle.std.specs.declared.result.Result.the-variants.{Ok}
+use Rattle.words.specs.Refusals.{value-or}
 use Rattle.crdt.specs.declared.kind.Crdt.{Ghosts}
-use Rattle.entries.specs.Rows.{empty}
 use Rattle.counters.specs.Counts.{larger}
 use Rattle.wire.specs.Messages.{Message, full, delta, Clock}
 use Rattle.histories.specs.Clusters.{Station, entry, raised, fresh}
-use Rattle.histories.specs.Calls.{emptied}
+use Rattle.histories.specs.Calls.{with-delta, emptied}
 use Rattle.histories.specs.Histories.{Accepted, report-count}
 use Rattle.histories.proofs.Clocks.{entry-empty, entry-larger, entry-low, raised-by}
 use Rattle.histories.proofs.Overs.{Laws, covers, over, count-self, count-le, over-or, over-same, over-none, over-skips, over-takes}
@@ -47,7 +48,7 @@ Sound-message K log (delta i f t v) = Sound-span K log i f t v
 
 -- the stations that the calls leave
 abbrev pub with-report : {S R : Type 0} (K : Ghosts S R) → ℕ → K .Value → Station (K .Value) → Station (K .Value)
-with-report K s d st = record { number = st .number; clock = raised (st .clock) s (entry (st .clock) s + 1); held = K .joined (st .held) d; pending = K .joined (st .pending) d; sent = st .sent }
+with-report K s d st = value-or st (with-delta K s st (Ok d))
 
 abbrev pub with-message : {S R : Type 0} (K : Ghosts S R) → Message Clock (K .Value) → Station (K .Value) → Station (K .Value)
 with-message K (full i c v) st = record { number = st .number; clock = larger (st .clock) c; held = K .joined (st .held) v; pending = st .pending; sent = st .sent }

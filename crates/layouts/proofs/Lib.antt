@@ -3,3 +3,4 @@ pub mod Rows
 pub mod PageBytes
 pub mod PageLists
 pub mod Mounts
+pub mod Worked

@@ -1,5 +1,4 @@
 // How the program prints words, counts and faults.
-use counters::g_counter::GCounter;
 use std::fmt;
 use words::fault::Fault;
 use words::fault::Layer;
@@ -7,9 +6,9 @@ use words::refusal::Refusal;
 
 // Words in hexadecimal.
 #[derive(Clone, Copy)]
-pub(crate) struct Words<'a>(pub(crate) &'a [u32]);
+pub(crate) struct Hex<'a>(pub(crate) &'a [u32]);
 
-pub(crate) impl fmt::Display for Words<'_> as WordsDisplay {
+pub(crate) impl fmt::Display for Hex<'_> as HexDisplay {
     fn fmt<W: fmt::Write>(&self, f: &mut fmt::Formatter<W>) -> fmt::Result {
         for (i, word) in self.0.iter().enumerate() {
             if i > 0 {
@@ -23,15 +22,14 @@ pub(crate) impl fmt::Display for Words<'_> as WordsDisplay {
 
 // The counts that are not 0, by station.
 #[derive(Clone, Copy)]
-pub(crate) struct Counts<'a>(pub(crate) &'a GCounter);
+pub(crate) struct CountsOf<'a>(pub(crate) &'a [u32; 16]);
 
-pub(crate) impl fmt::Display for Counts<'_> as CountsDisplay {
+pub(crate) impl fmt::Display for CountsOf<'_> as CountsOfDisplay {
     fn fmt<W: fmt::Write>(&self, f: &mut fmt::Formatter<W>) -> fmt::Result {
-        write!(f, "counts {{")?;
+        write!(f, "{{")?;
         let mut any = false;
-        for station in 0..16 {
-            let count = self.0.count(station);
-            if count > 0 {
+        for (station, count) in self.0.iter().enumerate() {
+            if *count > 0 {
                 if any {
                     write!(f, ", ")?;
                 }
@@ -53,7 +51,7 @@ pub(crate) impl fmt::Display for Found as FoundDisplay {
         let meaning = meaning_of(self.0.refusal);
         let place = self.0.place;
         let layer = layer_name(self.0.layer);
-        write!(f, "{number} ({meaning}) at word {place}, layer {layer}")
+        write!(f, "{number} ({meaning}) at {place}, layer {layer}")
     }
 }
 

@@ -1,5 +1,4 @@
 -- What the types of this crate say, as values. Assumes nothing.
---     span-told r        an answer that is a span, by its ends
 --     header-told r      an answer that is a header, as a message without clock and record
 --     message-of h c v   the message of a header, a clock and a record
 --     open-told r        an answer that is an opened message, by the words of its parts
@@ -15,11 +14,7 @@ use Rattle.messages.specs.declared.header.Header.{Header}
 use Rattle.messages.specs.declared.header.Header.the-variants as header
 use Rattle.messages.specs.declared.opened.Opened.{Opened}
 use Rattle.messages.specs.declared.opened.Opened.the-variants as opened
-use Rattle.messages.specs.declared.span.Span.{Span}
-
-abbrev pub span-told : Result Span Fault → Result (ℕ × ℕ) Told
-span-told (Ok s) = Ok (s .from, s .to)
-span-told (Err f) = Err (told-fault f)
+use Rattle.wire.specs.declared.span.Span.{Span}
 
 abbrev pub header-parts : Header → Message (Unit {0}) (Unit {0})
 header-parts (header.Full s) = full s tt tt

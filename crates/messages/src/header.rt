@@ -1,7 +1,7 @@
 // What a message says beside its clock and its record.
-use crate::span::Span;
-use crate::span::SpanDebug;
-use crate::span::SpanPartialEq;
+use wire::span::Span;
+use wire::span::SpanDebug;
+use wire::span::SpanPartialEq;
 
 #[derive(Clone, Copy, PartialEq, Eq, Debug)]
 pub enum Header {

@@ -1,9 +1,7 @@
 // Messages between stations: packing them into given words, and opening and unpacking the words of one.
-mod head;
 pub mod header;
 pub mod open;
 pub mod opened;
 pub mod pack;
 mod read;
-pub mod span;
 pub mod unpack;

@@ -6,6 +6,10 @@ mod clock;
 #[cfg(test)]
 mod counter;
 #[cfg(test)]
+mod mailbox;
+#[cfg(test)]
+mod message;
+#[cfg(test)]
 mod pair;
 #[cfg(test)]
 mod register;

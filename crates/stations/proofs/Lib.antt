@@ -1,1 +1,4 @@
+pub mod Changes
+pub mod Reports
+pub mod Spans
 pub mod Tables

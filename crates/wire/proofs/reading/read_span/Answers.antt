@@ -8,12 +8,12 @@ use Rattle.std.proofs.shelf.Results.{err-from-errBy}
 use Rattle.std.proofs.shelf.Tests.{lt-ltb, le-leb, and-from, true≢false}
 use Rattle.std.specs.declared.result.Result.the-variants.{Ok, Err}
 use Rattle.words.specs.Readings.{rest, left, before, fault-at}
 use Rattle.wire.specs.Openings.{found, span-reading}
 use Rattle.wire.specs.Answers.{reading-answer}
 use Rattle.wire.proofs.Steps.{at-fault}
 use Rattle.wire.proofs.Ways.{found-ok, found-err, at-to, to-wrong, to-low, to-high, at-past}
-use Rattle.messages.specs.Headers.{span-told}
-use Rattle.messages.proofs.read.read_span.Needs as need
+use Rattle.wire.specs.Spans.{span-told}
+use Rattle.wire.proofs.reading.read_span.Needs as need
 
 pub returns-in-Break-to : need.returns-in-Break-to
 returns-in-Break-to c =

@@ -17,7 +17,7 @@ const FEWEST: usize = 2;
 const MOST: usize = 127;
 
 // The head of a message of so many words, where that many are given; or why there is none.
-pub(crate) fn make(kind: WordKind, sender: usize, size: usize, room: usize) -> Result<Word, Refusal>
+pub fn make(kind: WordKind, sender: usize, size: usize, room: usize) -> Result<Word, Refusal>
     ensures { λ r. ⌜ word-told r ≡ head-made (kind-number kind) sender size room ⌝ }
 {
     if sender > 15 {
@@ -33,7 +33,7 @@ pub(crate) fn make(kind: WordKind, sender: usize, size: usize, room: usize) -> R
 }
 
 // The head at the place of a reader, which counts the words from there on.
-pub(crate) fn check(reader: &Reader) -> Result<Word, Fault>
+pub fn check(reader: &Reader) -> Result<Word, Fault>
     ensures { λ r. ⌜ word-read r ≡ found-at (now (reader .entry)) (head-found (left (now (reader .entry)))) ⌝ }
 {
     let Some(word) = reader.look() else {

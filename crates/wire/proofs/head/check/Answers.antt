@@ -9,10 +9,10 @@ use Rattle.std.proofs.shelf.Tests.{or-left, or-right}
 use Rattle.std.specs.declared.result.Result.the-variants.{Ok, Err}
 use Rattle.words.specs.Readings.{left, stepped}
 use Rattle.words.specs.Words.{kind}
 use Rattle.wire.specs.Openings.{head-found}
 use Rattle.wire.specs.Answers.{found-at}
 use Rattle.wire.proofs.Ways.{head-right, head-false}
-use Rattle.messages.proofs.head.check.Needs as need
+use Rattle.wire.proofs.head.check.Needs as need
 
 pub sub-reader : need.sub-reader
 sub-reader c =
