@@ -1,6 +1,8 @@
 -- What holds of every history of calls from a fresh table and an empty mailbox. Assumes nothing.
 --     Promised K start n h     all of it, of history h of n stations from cluster start, at each of its moments
+--     Promised-from K ts       it is so of every history from stations ts and an empty mailbox
 -- A moment of h is an earlier part g, with later ++ g ≡ h: after any number of its calls, from none to all.
+use mathlib.Core.Bool.{Bool}
 use mathlib.Core.List.{List, [], _∷_, _++_}
 use mathlib.Core.Logic.{_≢_}
 use mathlib.Core.Path.{_≡_}
@@ -71,3 +73,8 @@ module _ {S R : Type 0} (K : Ghosts S R) (start : Cluster (K .Value)) where
 -- of every history from a fresh table and an empty mailbox
 abbrev pub Histories-promised : {S R : Type 0} (K : Ghosts S R) → Type 0
 Histories-promised {S} {R} K = (start : Cluster (K .Value)) (n : ℕ) → Fresh K n start → (h : History (K .Value) R) → Lawful K start h → Promised K start n h
+
+-- of every history from these stations and an empty mailbox, whatever that takes
+abbrev pub Promised-from : {S R : Type 0} (K : Ghosts S R) → List (Station (K .Value)) → Type 0
+Promised-from {S} {R} K ts = (takes : ℕ → Bool) (h : History (K .Value) R) →
+    Lawful K (record { stations = ts; waiting = []; takes = takes }) h → Promised K (record { stations = ts; waiting = []; takes = takes }) (length ts) h

@@ -9,7 +9,7 @@ use Rattle.std.proofs.shelf.Tests.{lt-ltb, le-ltb, le-leb, and-from, and-left, 
 use Rattle.std.specs.declared.option.Option.{Option}
 use Rattle.std.specs.declared.option.Option.the-variants.{Some, None}
 use Rattle.std.specs.Options.{Cases}
-use Rattle.messages.specs.declared.span.Span.{Span}
+use Rattle.wire.specs.declared.span.Span.{Span}
 
 pub span-some : (sent own : ℕ) → own ≤ 65535 → (ltb sent own && leb own 65535) ≡ ltb (min sent own) own
 span-some sent own small =

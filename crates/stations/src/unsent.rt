@@ -7,7 +7,7 @@ ghost use Rattle.histories.specs.Calls.{emptied};
 ghost use Rattle.stations.specs.Stored.{station-of};
 use crate::station::Station;
 use crdt::kind::Crdt;
-use messages::span::Span;
+use wire::span::Span;
 
 impl<C: Crdt> Station<C> {
     // The span of its reports that it has not sent, if there are any.
