@@ -23,7 +23,8 @@ use Rattle.stations.specs.declared.station.Station.{Station}
 use Rattle.stations.specs.Stored.{station-of, Here}
 use Rattle.stations.proofs.Tables.{found-here}
 use Rattle.fetches.specs.declared.fault.FetchFault.{FetchFault}
-use Rattle.fetches.specs.Fetches.{fetch-told, Others}
+use Rattle.stations.specs.Tables.{Others}
+use Rattle.fetches.specs.Fetches.{fetch-told}
 
 pub kept-same : {X T E : Type 0} (r : Result T E) (x : X) → Kept r x x
 kept-same (Ok t) x = tt

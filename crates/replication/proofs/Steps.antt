@@ -1,11 +1,11 @@
 -- The step that a call makes, from what its contract says. Assumes nothing.
 use mathlib.Core.Bool.{Bool, true, false, cond}
-use mathlib.Core.List.{List, [], map}
-use mathlib.Core.Path.{_≡_, refl, sym, ap, _∙_}
+use mathlib.Core.List.{List, [], _∷_, map}
+use mathlib.Core.Path.{_≡_, refl, sym, ap, subst, _∙_}
 use Prim.Native.Nat.{ℕ, _+_, _<_}
 use native.Mathlib.Omega.{arith}
 use lib.Dec.{ltb}
-use lib.ListN.{length, getD}
+use lib.ListN.{length, getD, length-append}
 use Rattle.std.proofs.shelf.Edits.{length-removed}
 use Rattle.std.proofs.shelf.Tests.{ltb-true}
 use Rattle.std.specs.declared.result.Result.{Result}
@@ -16,10 +16,11 @@ use Rattle.words.specs.Refusals.{numbered, number-of, bare}
 use Rattle.crdt.specs.declared.kind.Crdt.{Ghosts}
 use Rattle.mailboxes.specs.declared.mailbox.Mailbox.{Ghosts as Boxes}
 use Rattle.mailboxes.specs.Mailboxes.{counted, discard-answer, discard-leaves, read-answer, Kept}
-use Rattle.histories.specs.Clusters.{found}
-use Rattle.histories.specs.Calls.{report, fetch, discard, count, fits, peek, number, room-for, Answer, reporting, fetching, done-if, number-if, fetched-if, changed, Step}
+use Rattle.histories.specs.Clusters.{Cluster, found}
+use Rattle.histories.specs.Calls.{Call, report, send-delta, send-full, sending-delta, sending-full, sent-if, changed-too, appended, fetch, discard, count, fits, peek, number, room-for, Answer, reporting, fetching, done-if, number-if, fetched-if, changed, Step}
 use Rattle.stations.specs.declared.station.Station.{Station}
 use Rattle.stations.specs.Stored.{station-of, cluster-of}
+use Rattle.sends.specs.Sends.{sent-length}
 
 done-bare : {X : Type 0} (x : Result X ℕ) → done-if (bare x) ≡ done-if x
 done-bare (Ok x) = refl
@@ -36,6 +37,20 @@ discard-refused ms k false is same = refl
 refused-kept : {X M : Type 0} (r : Result X Refusal) (x : Result X ℕ) (n : ℕ) (was is : M) → numbered r ≡ x → x ≡ Err n → Kept r was is → is ≡ was
 refused-kept (Ok y) x n was is e p kept = let z : _≡_ {A = ℕ} 0 1 = cc in absurd (omega arith)
 refused-kept (Err f) x n was is e p kept = kept
+
+number-sent : {X : Type 0} (x : Result (List ℕ × X) ℕ) → number-if (sent-length x) ≡ sent-if x
+number-sent (Ok p) = refl
+number-sent (Err n) = refl
+
+-- a send that leaves as many messages was refused
+sent-kept : {X M : Type 0} (ws : List (List ℕ)) (x : Result (List ℕ × X) ℕ) (r : Result ℕ Refusal) (was is : M) → numbered r ≡ sent-length x → Kept r was is → length (appended ws x) ≡ length ws → is ≡ was
+sent-kept ws (Ok p) r was is e kept same = let l = length-append ws (p .0 ∷ []) in absurd (omega arith)
+sent-kept ws (Err n) (Ok y) was is e kept same = let z : _≡_ {A = ℕ} 0 1 = cc in absurd (omega arith)
+sent-kept ws (Err n) (Err f) was is e kept same = kept
+
+-- a step by other names of its call and its answer
+pub step-as : {S R : Type 0} (K : Ghosts S R) (y z : Cluster (K .Value)) (c d : Call R) (a b : Answer) → c ≡ d → a ≡ b → Step K y d b z → Step K y c a z
+step-as K y z c d a b e f step = subst (λ x. Step K y x a z) (sym e) (subst (λ x. Step K y d x z) (sym f) step)
 
 module _ {S R M : Type 0} (K : Ghosts S R) (P : Boxes M) where
   pub step-report : (ts after : List (Station S)) (m : M) (s : ℕ) (x : R) (r : Result (Unit {0}) Refusal) →
@@ -62,6 +77,23 @@ module _ {S R M : Type 0} (K : Ghosts S R) (P : Boxes M) where
         let none = discard-refused ms k (ltb k (counted ms)) refl (sym (ap length leaves) ∙ same) in
         ap (P .takes) (refused-kept r (discard-answer ms k) 9 was is e (ap (λ b. cond b (Ok tt) (Err 9)) none) kept);
   }
+
+  pub step-send-full : (ts : List (Station S)) (was is : M) (s room : ℕ) (r : Result ℕ Refusal) →
+      numbered r ≡ sent-length (sending-full K (P .takes was) s room (found K (map (station-of K) ts) s)) →
+      P .waiting is ≡ appended (P .waiting was) (sending-full K (P .takes was) s room (found K (map (station-of K) ts) s)) → Kept r was is →
+      Step K (cluster-of K P ts was) (send-full s room) (number-if (numbered r)) (cluster-of K P ts is)
+  step-send-full ts was is s room r e leaves kept =
+      let x = sending-full K (P .takes was) s room (found K (map (station-of K) ts) s) in
+      record { answer = ap number-if e ∙ number-sent x; stations = refl; waiting = leaves; takes = λ same. ap (P .takes) (sent-kept (P .waiting was) x r was is e kept (sym (ap length leaves) ∙ same)) }
+
+  pub step-send-delta : (ts after : List (Station S)) (was is : M) (s room : ℕ) (r : Result ℕ Refusal) →
+      numbered r ≡ sent-length (sending-delta K (P .takes was) s room (found K (map (station-of K) ts) s)) →
+      map (station-of K) after ≡ changed-too (map (station-of K) ts) s (sending-delta K (P .takes was) s room (found K (map (station-of K) ts) s)) →
+      P .waiting is ≡ appended (P .waiting was) (sending-delta K (P .takes was) s room (found K (map (station-of K) ts) s)) → Kept r was is →
+      Step K (cluster-of K P ts was) (send-delta s room) (number-if (numbered r)) (cluster-of K P after is)
+  step-send-delta ts after was is s room r e table leaves kept =
+      let x = sending-delta K (P .takes was) s room (found K (map (station-of K) ts) s) in
+      record { answer = ap number-if e ∙ number-sent x; stations = table; waiting = leaves; takes = λ same. ap (P .takes) (sent-kept (P .waiting was) x r was is e kept (sym (ap length leaves) ∙ same)) }
 
   module _ (ts : List (Station S)) (m : M) where
     pub step-count : (n : ℕ) → n ≡ counted (P .waiting m) → Step K (cluster-of K P ts m) count (number n) (cluster-of K P ts m)

@@ -6,26 +6,31 @@
 --     calls-of h, answers-of h         the calls of a history and their answers, the oldest first
 --     Ran                              a history of exactly these calls, with exactly these answers, from a fresh start to a cluster
 --     Replayed                         the same, and all that is promised of that history
-use mathlib.Core.Bool.{Bool}
+--     replay-answer                    whether a list of so many calls is begun, by the room for answers, the messages that wait and the places of the table
+use mathlib.Core.Bool.{Bool, cond}
 use mathlib.Core.List.{List, [], _∷_, _++_}
 use mathlib.Core.Path.{_≡_}
 use Prim.Native.Nat.{ℕ}
+use lib.Dec.{ltb}
 use Rattle.std.specs.declared.result.Result.{Result}
 use Rattle.std.specs.declared.result.Result.the-variants.{Ok, Err}
 use Rattle.words.specs.Readings.{told-fault}
 use Rattle.words.specs.Refusals.{number-of}
-use Rattle.words.specs.Writes.{put}
 use Rattle.crdt.specs.declared.kind.Crdt.{Ghosts}
 use Rattle.mailboxes.specs.Mailboxes.{read-leaves}
 use Rattle.histories.specs.Clusters.{Cluster, found}
 use Rattle.histories.specs.Calls.{Call as Asked, report, send-delta, send-full, fetch, discard, count, fits, peek, Answer as Said, done, number, room-for, refused, faulted, sending-delta, sending-full}
 use Rattle.histories.specs.Histories.{History, did, end, Lawful, Fresh}
 use Rattle.histories.specs.Promises.{Promised}
+use Rattle.stations.specs.Tables.{init-answer}
+use Rattle.sends.specs.Sends.{sent-words}
 use Rattle.fetches.specs.Fetches.{fetch-leaves}
 use Rattle.replication.specs.declared.call.Call.{Call}
 use Rattle.replication.specs.declared.call.Call.the-variants.{Report, SendDelta, SendFull, Fetch, Discard, Count, Fits, Read}
 use Rattle.replication.specs.declared.answer.Answer.{Answer}
 use Rattle.replication.specs.declared.answer.Answer.the-variants as stored
+use Rattle.replication.specs.declared.unready.Unready.{Unready}
+use Rattle.replication.specs.declared.unready.Unready.the-variants as unready
 
 abbrev pub asked : {R : Type 0} → ℕ → Call R → Asked R
 asked room (Report s r) = report s r
@@ -44,10 +49,13 @@ told (stored.Fits b) = room-for b
 told (stored.Refused e) = refused (number-of e)
 told (stored.Faulted f) = faulted (f .station) (f .message) (told-fault (f .fault))
 
--- a message that was sent stands at the front of the given words
-abbrev pub words-sent : {X E : Type 0} → List ℕ → Result (List ℕ × X) E → List ℕ
-words-sent old (Ok p) = put old 0 (p .0)
-words-sent old (Err e) = old
+abbrev pub table-ready : Result (Unit {0}) ℕ → Result (Unit {0}) Unready
+table-ready (Ok u) = Ok u
+table-ready (Err n) = Err unready.Table
+
+abbrev pub replay-answer : (calls answers waiting places : ℕ) → Result (Unit {0}) Unready
+replay-answer calls answers waiting places =
+    cond (ltb answers calls) (Err unready.Answers) (cond (ltb 0 waiting) (Err unready.Mailbox) (table-ready (init-answer places)))
 
 abbrev pub calls-of : {V R : Type 0} → History V R → List (Asked R)
 calls-of [] = []
@@ -60,8 +68,8 @@ answers-of (did c a y ∷ h) = answers-of h ++ (a ∷ [])
 module _ {S R : Type 0} (K : Ghosts S R) where
   abbrev pub words-after : Cluster (K .Value) → Asked R → List ℕ → List ℕ
   words-after y (report s r) old = old
-  words-after y (send-delta s room) old = words-sent old (sending-delta K (y .takes) s room (found K (y .stations) s))
-  words-after y (send-full s room) old = words-sent old (sending-full K (y .takes) s room (found K (y .stations) s))
+  words-after y (send-delta s room) old = sent-words old (sending-delta K (y .takes) s room (found K (y .stations) s))
+  words-after y (send-full s room) old = sent-words old (sending-full K (y .takes) s room (found K (y .stations) s))
   words-after y (fetch s k room) old = fetch-leaves (found K (y .stations) s) (y .waiting) k old
   words-after y (discard k) old = old
   words-after y count old = old

@@ -1,4 +1,9 @@
 // What a call on a cluster answers.
+ghost use mathlib.Core.Path.{_≡_};
+ghost use Rattle.words.specs.Refusals.{numbered};
+ghost use Rattle.histories.specs.Calls.{done-if, number-if};
+ghost use Rattle.fetches.specs.Fetches.{fetch-told};
+ghost use Rattle.replication.specs.Runs.{told};
 use fetches::fault::FetchFault;
 use fetches::fault::FetchFaultDebug;
 use fetches::fault::FetchFaultPartialEq;
@@ -16,4 +21,36 @@ pub enum Answer {
     Fits(bool),
     Refused(Refusal),
     Faulted(FetchFault),
+}
+
+impl Answer {
+    // The answer of a call that is only done.
+    pub(crate) fn of_call(result: Result<(), Refusal>) -> Answer
+        ensures { λ a. ⌜ told a ≡ done-if (numbered result) ⌝ }
+    {
+        match result {
+            Ok(()) => Answer::Done,
+            Err(refusal) => Answer::Refused(refusal),
+        }
+    }
+
+    // The answer of a call that gives a message's length.
+    pub(crate) fn of_length(result: Result<usize, Refusal>) -> Answer
+        ensures { λ a. ⌜ told a ≡ number-if (numbered result) ⌝ }
+    {
+        match result {
+            Ok(n) => Answer::Number(n),
+            Err(refusal) => Answer::Refused(refusal),
+        }
+    }
+
+    // The answer of a fetch.
+    pub(crate) fn of_fetch(result: Result<usize, FetchFault>) -> Answer
+        ensures { λ a. ⌜ told a ≡ fetch-told result ⌝ }
+    {
+        match result {
+            Ok(n) => Answer::Number(n),
+            Err(fault) => Answer::Faulted(fault),
+        }
+    }
 }
