@@ -1,9 +1,7 @@
-use mathlib.Core.Path.{_≡_, sym, ap, _∙_}
+use mathlib.Core.Path.{sym, ap, _∙_}
 use lib.ListN.{length}
-use Rattle.words.specs.Refusals.{numbered}
-use Rattle.histories.specs.Calls.{report, send-delta, send-full, done-if, number-if}
 use Rattle.stations.specs.Stored.{cluster-of}
-use Rattle.replication.specs.Runs.{asked, told, words-after}
+use Rattle.replication.specs.Runs.{asked, words-after}
 use Rattle.replication.proofs.Steps.{step-as, step-report, step-send-delta, step-send-full}
 use Rattle.replication.proofs.perform.perform.Needs as need
 

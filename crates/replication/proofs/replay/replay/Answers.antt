@@ -1,6 +1,6 @@
-use mathlib.Core.List.{[], map}
+use mathlib.Core.List.{map}
 use mathlib.Core.Path.{_≡_, refl, sym, ap, subst, _∙_}
-use Prim.Native.Nat.{ℕ, _<_}
+use Prim.Native.Nat.{_<_}
 use native.Mathlib.Omega.{arith}
 use lib.ListN.{length, take}
 use lib.Seq.{drop-set-lt}
