@@ -1,15 +1,13 @@
 -- What a stored station stands for after a message, and before a refused one. Assumes nothing.
-use mathlib.Core.Bool.{Bool, true, false, _&&_}
-use mathlib.Core.List.{List}
-use mathlib.Core.Path.{_≡_, refl, sym, ap, _∙_}
-use Prim.Native.Nat.{ℕ, _<_, _≤_, min}
+use mathlib.Core.Bool.{false, _&&_}
+use mathlib.Core.Path.{_≡_, sym, ap, _∙_}
+use Prim.Native.Nat.{ℕ, _≤_, min}
 use native.Mathlib.Omega.{arith}
 use lib.Dec.{ltb, eqb}
 use Rattle.std.proofs.shelf.Tests.{cond-false, le-ltb}
 use Rattle.std.proofs.shelf.Ways.{tells}
 use Rattle.std.specs.declared.result.Result.{Result}
 use Rattle.std.specs.declared.result.Result.the-variants.{Ok, Err}
-use Rattle.words.specs.declared.fault.Layer.the-variants as layer
 use Rattle.crdt.specs.declared.kind.Crdt.{Ghosts}
 use Rattle.counters.specs.declared.vector_clock.VectorClock.{VectorClock}
 use Rattle.counters.specs.Counts.{clock-of, larger, only}
@@ -20,7 +18,7 @@ use Rattle.messages.specs.declared.header.Header.{Header}
 use Rattle.messages.specs.declared.header.Header.the-variants as header
 use Rattle.messages.specs.Headers.{header-parts, message-of}
 use Rattle.histories.specs.Clusters.{entry, raised}
-use Rattle.histories.specs.Calls.{plainly, gap, hearing}
+use Rattle.histories.specs.Calls.{hearing}
 use Rattle.histories.proofs.Clocks.{entry-larger}
 use Rattle.fetches.proofs.Raises.{only-most}
 use Rattle.stations.specs.declared.station.Station.{Station}

@@ -1,29 +1,28 @@
--- From one station to its table, and from a message that was read to a fetch. Assumes nothing.
+-- From a message that was read to a fetch. Assumes nothing.
 use mathlib.Core.Bool.{Bool, true, false, cond}
 use mathlib.Core.List.{List, [], _∷_, _++_, map}
 use mathlib.Core.Path.{_≡_, refl, sym, ap, _∙_}
 use Prim.Native.Nat.{ℕ, _+_, _-_, _<_, _≤_}
 use native.Mathlib.Omega.{arith}
 use lib.Dec.{ltb}
-use lib.ListN.{length, getD, set, take, drop, length-append}
-use Rattle.std.proofs.shelf.Lists.{map-set, set-getD, getD-set-other, take-append-le, take-all}
+use lib.ListN.{length, getD, take, drop, length-append}
+use Rattle.std.proofs.shelf.Lists.{take-append-le, take-all}
 use Rattle.std.specs.declared.result.Result.{Result}
 use Rattle.std.specs.declared.result.Result.the-variants.{Ok, Err}
 use Rattle.words.specs.declared.fault.Fault.{Fault}
 use Rattle.words.specs.declared.fault.Layer.the-variants as layer
-use Rattle.words.specs.Readings.{Told, told, told-fault}
-use Rattle.words.specs.Refusals.{bare, value-or}
+use Rattle.words.specs.Readings.{Told, told-fault}
+use Rattle.words.specs.Refusals.{bare}
 use Rattle.words.specs.Writes.{most, put}
 use Rattle.crdt.specs.declared.kind.Crdt.{Ghosts}
 use Rattle.mailboxes.specs.Mailboxes.{counted, read-answer, read-leaves, Kept}
 use Rattle.wire.specs.Openings.{unpacked}
 use Rattle.histories.specs.Clusters.{Station as Meant, found}
-use Rattle.histories.specs.Calls.{Answer, plainly, hearing-opened, fetching, fetched-if, changed}
+use Rattle.histories.specs.Calls.{plainly, hearing-opened, fetching, fetched-if}
 use Rattle.stations.specs.declared.station.Station.{Station}
 use Rattle.stations.specs.Stored.{station-of, Here}
 use Rattle.stations.proofs.Tables.{found-here}
-use Rattle.fetches.specs.declared.fault.FetchFault.{FetchFault}
-use Rattle.fetches.specs.Fetches.{fetch-told, Others}
+use Rattle.fetches.specs.Fetches.{fetch-told}
 
 pub kept-same : {X T E : Type 0} (r : Result T E) (x : X) → Kept r x x
 kept-same (Ok t) x = tt
@@ -37,18 +36,6 @@ bare-err (Err f) e p = let h : e ≡ f = cc in ap Err (sym h)
 pub some-of : {X : Type 0} (xs : List X) (s : ℕ) → s < length xs → X
 some-of [] s h = absurd (omega arith)
 some-of (x ∷ xs) s h = x
-
-pub others-set : {X : Type 0} (xs : List X) (s : ℕ) (x : X) → Others s xs (set xs s x)
-others-set xs s x j d other = getD-set-other xs s j x d other
-
-module _ {S R : Type 0} (K : Ghosts S R) (ts : List (Station S)) (s : ℕ) (d st : Station S) where
-  pub table-after : (o : Result (Meant (K .Value)) Told) (r : Result (Unit {0}) Fault) → told r ≡ bare o → station-of K st ≡ value-or (station-of K (getD ts s d)) o → Kept r (getD ts s d) st → map (station-of K) (set ts s st) ≡ changed (map (station-of K) ts) s o
-  table-after (Ok y) r e after kept = map-set (station-of K) ts s st ∙ ap (set (map (station-of K) ts) s) after
-  table-after (Err f) (Ok u) e after kept = let z : _≡_ {A = ℕ} 0 1 = cc in absurd (omega arith)
-  table-after (Err f) (Err g) e after kept = ap (λ x. map (station-of K) (set ts s x)) kept ∙ ap (map (station-of K)) (set-getD ts s d)
-
-pub table-kept : {S : Type 0} (ts : List (Station S)) (s : ℕ) (d st : Station S) → st ≡ getD ts s d → set ts s st ≡ ts
-table-kept ts s d st e = ap (set ts s) e ∙ set-getD ts s d
 
 -- a read that is refused, and one that is done
 read-err-by : {X : Type 0} (b c : Bool) (len : ℕ) (o : Result X Told) (n : ℕ) → Err n ≡ cond b (Err 6) (cond c (Ok len) (Err 9)) → cond b (Err (plainly layer.Mailbox 6)) (cond c o (Err (plainly layer.Mailbox 9))) ≡ Err (plainly layer.Mailbox n)

@@ -1,11 +1,8 @@
 -- What a fetch tells, and what it leaves of the given words. Assumes nothing.
 --     fetch-told r                   an answer of a fetch: the message's length, or the fault with its station and message
 --     fetch-leaves found ws k old    what the given words hold after it, by the station that was found
---     Others s was is                no element but s of a list has changed
 use mathlib.Core.List.{List}
-use mathlib.Core.Path.{_≡_}
 use Prim.Native.Nat.{ℕ}
-use lib.ListN.{getD}
 use Rattle.std.specs.declared.result.Result.{Result}
 use Rattle.std.specs.declared.result.Result.the-variants.{Ok, Err}
 use Rattle.words.specs.Readings.{told-fault}
@@ -20,6 +17,3 @@ fetch-told (Err f) = faulted (f .station) (f .message) (told-fault (f .fault))
 abbrev pub fetch-leaves : {X : Type 0} → Result X ℕ → List (List ℕ) → ℕ → List ℕ → List ℕ
 fetch-leaves (Ok st) ws k old = read-leaves ws k old
 fetch-leaves (Err n) ws k old = old
-
-abbrev pub Others : {X : Type 0} → ℕ → List X → List X → Type 0
-Others {X} s was is = (j : ℕ) (d : X) → (j ≡ s → ⊥) → getD is j d ≡ getD was j d

@@ -1,17 +1,17 @@
 use mathlib.Core.List.{[], map}
-use mathlib.Core.Path.{_≡_, refl, sym, ap, _∙_}
+use mathlib.Core.Path.{refl, sym, ap, _∙_}
 use Prim.Native.Nat.{ℕ, _≤_, _-_}
 use native.Mathlib.Omega.{arith}
-use lib.ListN.{length, getD, take, drop}
+use lib.ListN.{length, getD, take}
 use Rattle.std.specs.declared.result.Result.the-variants.{Ok, Err}
 use Rattle.words.specs.Refusals.{number-of, bare, value-or}
-use Rattle.mailboxes.specs.Mailboxes.{read-leaves}
 use Rattle.histories.specs.Clusters.{found}
 use Rattle.histories.specs.Calls.{faulted, fetching, fetched-if, changed}
 use Rattle.stations.specs.Stored.{station-of}
+use Rattle.stations.proofs.Changes.{changed-one, others-one, kept-one}
 use Rattle.stations.proofs.Tables.{found-here}
 use Rattle.fetches.specs.Fetches.{fetch-leaves}
-use Rattle.fetches.proofs.Lifts.{bare-err, some-of, others-set, table-after, table-kept, fetch-unread, was-read, at-front, front-within, fetch-is, told-ok, told-err}
+use Rattle.fetches.proofs.Lifts.{bare-err, some-of, fetch-unread, was-read, at-front, front-within, fetch-is, told-ok, told-err}
 use Rattle.fetches.proofs.fetch.fetch.Needs as need
 
 pub returns-in-Err : need.returns-in-Err
@@ -83,8 +83,8 @@ returns-in-Ok-receive g c =
     let told-so = c .in-Ok-receive .ensures tt .answer ∙ sym (ap bare o) in
     record {
       answer = told-ok _ (c .in-Ok-receive .field-0) s k n (length (getD ws k [])) told-so (r .long);
-      stations = table-after K all s d (c .receive .last .station) _ (c .receive .result) (c .receive .ensures .answer ∙ sym (ap bare o)) (c .receive .ensures .after ∙ sym (ap (value-or (station-of K (getD all s d))) o)) (c .receive .ensures .refused);
-      others = others-set all s (c .receive .last .station);
+      stations = changed-one (station-of K) all s d (c .receive .last .station) _ (c .receive .ensures .after ∙ sym (ap (value-or (station-of K (getD all s d))) o));
+      others = others-one all s (c .receive .last .station);
       refused = tt;
       words = c .read .ensures .words ∙ sym (ap (λ x. fetch-leaves x ws k old) (found-here K all s d (here .few) (here .within) (here .own d)));
     }
@@ -107,8 +107,8 @@ returns-in-Err-receive g c =
     let told-so = c .in-Err-receive .ensures tt .answer ∙ sym (ap bare o) in
     record {
       answer = told-err _ (c .in-Err-receive .fault) s k (length (getD ws k [])) told-so;
-      stations = table-after K all s d (c .receive .last .station) _ (c .receive .result) (c .receive .ensures .answer ∙ sym (ap bare o)) (c .receive .ensures .after ∙ sym (ap (value-or (station-of K (getD all s d))) o)) (c .receive .ensures .refused);
-      others = others-set all s (c .receive .last .station);
-      refused = table-kept all s d (c .receive .last .station) (c .in-Err-receive .ensures tt .refused);
+      stations = changed-one (station-of K) all s d (c .receive .last .station) _ (c .receive .ensures .after ∙ sym (ap (value-or (station-of K (getD all s d))) o));
+      others = others-one all s (c .receive .last .station);
+      refused = kept-one {T = ℕ} (Err (c .in-Err-receive .fault)) all s d (c .receive .last .station) (c .in-Err-receive .ensures tt .refused);
       words = c .read .ensures .words ∙ sym (ap (λ x. fetch-leaves x ws k old) (found-here K all s d (here .few) (here .within) (here .own d)));
     }
