@@ -1,10 +1,10 @@
 -- The ways of opening and unpacking a message. Assumes nothing.
 use mathlib.Core.Bool.{Bool, true, false, cond, _&&_, _||_}
 use mathlib.Core.List.{List, [], _∷_, _++_}
-use mathlib.Core.Path.{_≡_, refl, sym, ap, _∙_, subst}
+use mathlib.Core.Path.{_≡_, refl, sym, ap, _∙_}
 use Prim.Native.Nat.{ℕ, suc, _+_, _-_, _%_, _^_, _<_, _≤_}
 use native.Mathlib.Omega.{arith}
-use lib.Dec.{ltb, leb, eqb}
+use lib.Dec.{leb, eqb}
 use lib.ListN.{length, take, drop, length-append, length-drop}
 use lib.Seq.{take-at, drop-at}
 use Rattle.std.proofs.shelf.Lists.{take-rest}
@@ -19,10 +19,10 @@ use Rattle.words.specs.Words.{kind, index, formed, word-of}
 use Rattle.entries.specs.Rows.{empty}
 use Rattle.wire.specs.Messages.{Message, full, delta, sender-of, Clock, clock-written, packed-by, head-word}
 use Rattle.wire.specs.Openings.{found, length-right, head-found, to-read, from-read, span-reading, mapped, full-from, delta-from, after-head, head-read, opening, fault-in, left-over, with-record, completed, loaded-by, unpacked-by, clock-reading, record-of}
-use Rattle.wire.specs.Answers.{found-at, reading-answer, bare, header-answer, clock-in, clock-opened, in-words, open-answer}
-use Rattle.wire.proofs.Heads.{was-found, Headed, head-was}
+use Rattle.wire.specs.Answers.{found-at, reading-answer, bare, header-answer, clock-in, clock-opened, open-answer}
+use Rattle.wire.proofs.Heads.{was-found, head-was}
 use Rattle.wire.proofs.Laws.{parts}
-use Rattle.wire.proofs.Steps.{At, at-start, at-step, at-before, at-fault, at-moved, fault-front}
+use Rattle.wire.proofs.Steps.{At, at-start, at-step, at-before, at-moved}
 
 -- the last two tests of a head
 module _ (w : ℕ) (ws : List ℕ) (is : (eqb (kind w) 1 || eqb (kind w) 2) ≡ true) (form : formed w ≡ true) where

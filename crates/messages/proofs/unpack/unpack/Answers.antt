@@ -1,6 +1,5 @@
 use mathlib.Core.Path.{_≡_, refl, sym, ap, _∙_}
-use Prim.Native.Nat.{ℕ, _-_}
-use native.Mathlib.Omega.{arith}
+use Prim.Native.Nat.{_-_}
 use lib.ListN.{length}
 use Rattle.std.proofs.shelf.Results.{err-from-errBy, cases-from-err}
 use Rattle.std.specs.declared.result.Result.the-variants.{Ok, Err}

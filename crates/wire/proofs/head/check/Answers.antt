@@ -1,9 +1,9 @@
 use mathlib.Core.Logic.{⊎-elim}
 use mathlib.Core.Path.{_≡_, sym, ap, _∙_}
-use Prim.Native.Nat.{suc, _-_, _%_, _^_, _<_, _≤_}
+use Prim.Native.Nat.{suc, _-_, _%_, _^_, _≤_}
 use native.Mathlib.Omega.{arith}
 use lib.ListN.{length, length-drop}
-use Rattle.std.specs.declared.result.Result.the-variants.{Ok, Err}
+use Rattle.std.specs.declared.result.Result.the-variants.{Err}
 use Rattle.words.specs.Readings.{left, stepped}
 use Rattle.wire.specs.Openings.{head-found}
 use Rattle.wire.specs.Answers.{found-at}
