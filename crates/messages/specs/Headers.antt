@@ -14,7 +14,6 @@ use Rattle.messages.specs.declared.header.Header.{Header}
 use Rattle.messages.specs.declared.header.Header.the-variants as header
 use Rattle.messages.specs.declared.opened.Opened.{Opened}
 use Rattle.messages.specs.declared.opened.Opened.the-variants as opened
-use Rattle.wire.specs.declared.span.Span.{Span}
 
 abbrev pub header-parts : Header → Message (Unit {0}) (Unit {0})
 header-parts (header.Full s) = full s tt tt

@@ -18,6 +18,7 @@ use words::refusal::Refusal;
 
 // Reads the message that the given words are into a clock and a record.
 // Both are bottom where it is refused, and the clock where the message is a delta.
+// The last clause is the theorem that messages and their words are one to one, for every kind of record.
 pub fn unpack<C: Crdt>(
     words: &[u32],
     clock: &mut VectorClock,

@@ -1,16 +1,14 @@
 -- Messages and their words are one to one, from the laws of the clock and of the record. Assumes nothing.
-use mathlib.Core.Bool.{Bool, true, false, cond}
 use mathlib.Core.List.{List, [], _∷_, _++_, append-nil}
 use mathlib.Core.Logic.{_⊎_, inl, inr, ⊎-elim}
 use mathlib.Core.Path.{_≡_, refl, sym, ap, _∙_, subst}
-use Prim.Native.Nat.{ℕ, suc, _+_, _%_, _^_, _<_, _≤_}
+use Prim.Native.Nat.{ℕ, suc, _+_, _%_, _^_, _≤_}
 use native.Mathlib.Omega.{arith}
-use lib.Dec.{eqb}
 use lib.ListN.{length, drop, length-append}
 use Rattle.std.proofs.shelf.Tests.{cond-true, cond-false, eq-eqb, ne-eqb}
 use Rattle.std.specs.declared.result.Result.{Result}
 use Rattle.std.specs.declared.result.Result.the-variants.{Ok, Err}
-use Rattle.words.specs.Readings.{Reading, read, wrong, Told}
+use Rattle.words.specs.Readings.{Reading, read, wrong}
 use Rattle.words.specs.Words.{kind, index, word-of}
 use Rattle.crdt.specs.declared.kind.Crdt.{Ghosts}
 use Rattle.entries.specs.declared.kind.EntryKind.the-variants as entry

@@ -1,16 +1,15 @@
 -- A reader on its way over words. Assumes nothing.
-use mathlib.Core.List.{List, [], _∷_, _++_}
+use mathlib.Core.List.{List, _∷_, _++_}
 use mathlib.Core.Path.{_≡_, refl, sym, ap, _∙_, subst}
-use Prim.Native.Nat.{ℕ, suc, _+_, _-_, _<_, _≤_, min}
+use Prim.Native.Nat.{ℕ, _+_, _-_, _≤_, min}
 use native.Mathlib.Omega.{arith}
 use mathlib.Core.Bool.{cond}
 use lib.Dec.{eqb}
-use lib.ListN.{length, drop, getD, length-append, length-drop}
+use lib.ListN.{length, drop, length-append, length-drop}
 use lib.Seq.{drop-drop, drop-append-seam}
-use Rattle.std.specs.declared.result.Result.{Result}
 use Rattle.std.specs.declared.result.Result.the-variants.{Ok, Err}
 use Rattle.words.specs.declared.reader.Reader.{Reader}
-use Rattle.words.specs.Readings.{Reading, read, wrong, rest, left, stepped, before, fault-at, load-answer, Told}
+use Rattle.words.specs.Readings.{Reading, read, wrong, left, stepped, before, fault-at, load-answer}
 use Rattle.words.proofs.Walks.{same-place, left-more}
 use Rattle.wire.specs.Openings.{fault-in}
 

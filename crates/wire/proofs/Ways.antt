@@ -1,15 +1,15 @@
 -- The ways of opening and unpacking a message. Assumes nothing.
 use mathlib.Core.Bool.{Bool, true, false, cond, _&&_, _||_}
 use mathlib.Core.List.{List, [], _∷_, _++_}
-use mathlib.Core.Path.{_≡_, refl, sym, ap, _∙_, subst}
+use mathlib.Core.Path.{_≡_, refl, sym, ap, _∙_}
 use Prim.Native.Nat.{ℕ, suc, _+_, _-_, _%_, _^_, _<_, _≤_}
 use native.Mathlib.Omega.{arith}
-use lib.Dec.{ltb, leb, eqb}
+use lib.Dec.{leb, eqb}
 use lib.ListN.{length, take, drop, length-append, length-drop}
 use lib.Seq.{take-at, drop-at}
 use Rattle.std.proofs.shelf.Lists.{take-rest}
-use Rattle.std.proofs.shelf.Tests.{cond-true, cond-false, eq-eqb, le-leb, lt-ltb, le-ltb, eqb-true, leb-true, and-parts, and-from, cases-bool}
-use mathlib.Core.Logic.{⊎-elim}
+use Rattle.std.proofs.shelf.Tests.{cond-true, cond-false, eq-eqb, le-leb, lt-ltb, le-ltb, eqb-true, leb-true, and-parts, and-from, or-left, or-right, cases-bool}
+use mathlib.Core.Logic.{_⊎_, inl, inr, ⊎-elim}
 use Rattle.std.specs.declared.result.Result.{Result}
 use Rattle.std.specs.declared.result.Result.the-variants.{Ok, Err}
 use Rattle.words.specs.declared.fault.Layer.the-variants as layer
@@ -19,10 +19,10 @@ use Rattle.words.specs.Words.{kind, index, formed, word-of}
 use Rattle.entries.specs.Rows.{empty}
 use Rattle.wire.specs.Messages.{Message, full, delta, sender-of, Clock, clock-written, packed-by, head-word}
 use Rattle.wire.specs.Openings.{found, length-right, head-found, to-read, from-read, span-reading, mapped, full-from, delta-from, after-head, head-read, opening, fault-in, left-over, with-record, completed, loaded-by, unpacked-by, clock-reading, record-of}
-use Rattle.wire.specs.Answers.{found-at, reading-answer, bare, header-answer, clock-in, clock-opened, in-words, open-answer}
-use Rattle.wire.proofs.Heads.{was-found, Headed, head-was}
+use Rattle.wire.specs.Answers.{found-at, reading-answer, bare, header-answer, clock-in, clock-opened, open-answer}
+use Rattle.wire.proofs.Heads.{was-found, head-was}
 use Rattle.wire.proofs.Laws.{parts}
-use Rattle.wire.proofs.Steps.{At, at-start, at-step, at-before, at-fault, at-moved, fault-front}
+use Rattle.wire.proofs.Steps.{At, at-start, at-step, at-before, at-moved}
 
 -- the last two tests of a head
 module _ (w : ℕ) (ws : List ℕ) (is : (eqb (kind w) 1 || eqb (kind w) 2) ≡ true) (form : formed w ≡ true) where
@@ -40,6 +40,11 @@ module _ (w : ℕ) (ws : List ℕ) (is : (eqb (kind w) 1 || eqb (kind w) 2) ≡ 
       absurd (never (eqb-true (w % 2 ^ 8) (suc (length ws)) (a .0)) (leb-true 2 (w % 2 ^ 8) (b .0)) (leb-true (w % 2 ^ 8) 127 (b .1))))
       (λ (f : length-right (w % 2 ^ 8) (suc (length ws)) ≡ false). head-sized false f)
       (cases-bool (length-right (w % 2 ^ 8) (suc (length ws))))
+
+-- a head is of one of two kinds
+pub either-head : (w : ℕ) (a b : Bool) → a ≡ eqb (kind w) 1 → b ≡ eqb (kind w) 2 → ((a ≡ false) × (b ≡ true)) ⊎ (a ≡ true) → (eqb (kind w) 1 || eqb (kind w) 2) ≡ true
+either-head w a b p q (inl h) = or-right (eqb (kind w) 1) (eqb (kind w) 2) (sym q ∙ h .1)
+either-head w a b p q (inr h) = or-left (eqb (kind w) 1) (eqb (kind w) 2) (sym p ∙ h)
 
 -- what a step found, from what it answers
 pub found-ok : (r : Reader) (x : Result ℕ ℕ) (w : ℕ) → Ok w ≡ found-at r x → x ≡ Ok w
@@ -248,20 +253,38 @@ opened-by ws (wrong n more) p o e = let z : _≡_ {A = ℕ} 0 1 = cc in absurd (
 pub opened-words : (ws : List ℕ) (p : Message (List ℕ) (List ℕ)) → Ok p ≡ open-answer ws (opening ws) → ws ≡ packed-by (λ xs. xs) (λ xs. xs) p
 opened-words ws p e = opened-by ws (opening ws) p refl e
 
--- a reader that began at the front of the words of an opened message, and stands at its record
-module _ (start s : Reader) (front : start .place ≡ 0) (m : Message Clock (Unit {0})) (more : List ℕ) (o : opening (start .words .now) ≡ read m more) (stands : s ≡ before start more) where
-  pub at-record : At start s more
-  at-record =
-      let d = length-drop (start .place) (start .words .now) in
-      let h = more-fewer (start .words .now) m more o in
-      let n : start .place + length (left start) - length more ≡ length (start .words .now) - length more = omega arith in
-      record { stands = stands; sees = ap left stands ∙ record-is (start .words .now) m more o _ n; room = omega arith }
+-- the same reader, for the record's words
+abbrev pub for-record : Reader → Reader
+for-record r = record { words = r .words; place = r .place; layer = layer.Record }
 
-  pub place-after : (k : List ℕ) → before s k .place ≡ length (start .words .now) - length k
-  place-after k =
-      let d = length-drop (start .place) (start .words .now) in
-      let e : before s k .place ≡ start .place + length (left start) - length k = ap (λ (r : Reader). r .place) (at-before start s more at-record k) in
-      omega arith
+-- a reader that has read a header, from the front of the words of a message, stands at the record
+pub record At-record (start r : Reader) (b : Message (Unit {0}) (Unit {0})) : Type 0 where
+  pub message : Message Clock (Unit {0})
+  pub more : List ℕ
+  pub opens : opening (start .words .now) ≡ read message more
+  pub header : b ≡ bare message
+  pub here : At (for-record start) (for-record r) more
+  pub place-after : (k : List ℕ) → before (for-record r) k .place ≡ length (start .words .now) - length k
+
+pub stands-at-record : (start r : Reader) → start .place ≡ 0 → (b : Message (Unit {0}) (Unit {0})) → Ok b ≡ header-answer start (opening (start .words .now)) → r ≡ before start (rest (opening (start .words .now))) → At-record start r b
+stands-at-record start r front b e stands =
+    let q = header-ok start (opening (start .words .now)) b e in
+    let m = q .0 in
+    let more = q .1 in
+    let ws = start .words .now in
+    let d = length-drop (start .place) ws in
+    let fewer = more-fewer ws m more (q .2) in
+    let on : for-record r ≡ before (for-record start) more = ap for-record (stands ∙ ap (λ x. before start (rest x)) (q .2)) in
+    let n : start .place + length (left start) - length more ≡ length ws - length more = omega arith in
+    let here : At (for-record start) (for-record r) more = record { stands = on; sees = ap left on ∙ record-is ws m more (q .2) _ n; room = omega arith } in
+    record {
+      message = m;
+      more = more;
+      opens = q .2;
+      header = q .3;
+      here = here;
+      place-after = λ k. (let p : before (for-record r) k .place ≡ start .place + length (left start) - length k = ap (λ (s : Reader). s .place) (at-before (for-record start) (for-record r) more here k) in omega arith);
+    }
 
 pub clock-with : {V : Type 0} (m : Message Clock (Unit {0})) (v : V) → clock-in m ≡ clock-in (with-record m v)
 clock-with (full s c u) v = refl

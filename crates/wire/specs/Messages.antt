@@ -5,7 +5,7 @@
 --     packed K m         the words of a message whose record is of kind K
 --     Sendable K m       which messages there are: from a station, over a span that rises, of at most 127 words
 -- The forms that end in -by are over the words of a clock and of a record.
-use mathlib.Core.List.{List, [], _∷_, _++_}
+use mathlib.Core.List.{List, _∷_, _++_}
 use Prim.Native.Nat.{ℕ, suc, _+_, _*_, _^_, _<_, _≤_}
 use lib.ListN.{length}
 use Rattle.words.specs.Words.{word-of}

@@ -1,11 +1,8 @@
-use mathlib.Core.Bool.{true, false}
-use mathlib.Core.Path.{_≡_, sym, ap, _∙_}
-use lib.Dec.{eqb}
+use mathlib.Core.Path.{sym, ap, _∙_}
 use Rattle.std.proofs.shelf.Results.{err-from-errBy}
 use Rattle.std.specs.declared.result.Result.the-variants.{Ok, Err}
-use Rattle.words.specs.Readings.{read-or, rest, left, before, fault-at}
-use Rattle.words.specs.Words.{kind, index}
-use Rattle.entries.specs.Rows.{empty}
+use Rattle.words.specs.Readings.{rest, left, before, fault-at}
+use Rattle.words.specs.Words.{index}
 use Rattle.wire.specs.Messages.{full, delta}
 use Rattle.wire.specs.Openings.{head-found, head-read, span-reading, full-from, delta-from, clock-reading}
 use Rattle.wire.specs.Answers.{header-answer, clock-opened}

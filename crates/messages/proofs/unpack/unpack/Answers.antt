@@ -1,18 +1,17 @@
 use mathlib.Core.Path.{_≡_, refl, sym, ap, _∙_}
-use Prim.Native.Nat.{ℕ, _-_}
-use native.Mathlib.Omega.{arith}
+use Prim.Native.Nat.{_-_}
 use lib.ListN.{length}
 use Rattle.std.proofs.shelf.Results.{err-from-errBy, cases-from-err}
 use Rattle.std.specs.declared.result.Result.the-variants.{Ok, Err}
 use Rattle.words.specs.declared.fault.Layer.the-variants as layer
 use Rattle.words.specs.declared.reader.Reader.{Reader}
-use Rattle.words.specs.Readings.{read-or, rest, left, before, fault-at}
+use Rattle.words.specs.Readings.{read-or, left, fault-at}
 use Rattle.wire.specs.Messages.{packed}
 use Rattle.wire.specs.Openings.{opening, with-record}
 use Rattle.wire.specs.Answers.{unpack-answer, clock-opened, clock-unpacked, record-unpacked}
 use Rattle.wire.proofs.Laws.{both-ways}
 use Rattle.wire.proofs.Steps.{at-before, fault-front}
-use Rattle.wire.proofs.Ways.{header-ok, header-err, load-ok, load-err, not-opened, record-wrong, record-left, record-read, at-record, place-after, clock-with, record-with, bare-with}
+use Rattle.wire.proofs.Ways.{header-err, load-ok, load-err, not-opened, record-wrong, record-left, record-read, for-record, stands-at-record, clock-with, record-with, bare-with}
 use Rattle.messages.specs.Headers.{header-told, message-of}
 use Rattle.messages.proofs.Results.{message-is}
 use Rattle.messages.proofs.unpack.unpack.Needs as need
@@ -38,16 +37,12 @@ returns-in-Err g c =
     let k = g .C·Crdt in
     let ws = c .args .words .now in
     let start : Reader = record { words = c .args .words; place = 0; layer = layer.Message } in
-    let start′ : Reader = record { words = c .args .words; place = 0; layer = layer.Record } in
-    let at : Reader → Reader = λ r. record { words = r .words; place = r .place; layer = layer.Record } in
-    let s = at (c .read-header .last .reader) in
-    let q = header-ok start (opening ws) _ (c .in-Continue-header .ensures tt .answer) in
-    let stands : s ≡ before start′ (q .1) = ap at (c .read-header .ensures .reader ∙ ap (λ x. before start (rest x)) (q .2)) in
-    let here = at-record start′ s refl (q .0) (q .1) (q .2) stands in
+    let s = for-record (c .read-header .last .reader) in
+    let h = stands-at-record start (c .read-header .last .reader) refl _ (c .in-Continue-header .ensures tt .answer) (c .read-header .ensures .reader) in
     let l = load-err s (k .reading (left s)) _ (c .in-Err .ensures tt .answer) in
-    let u = record-wrong ws (k .reading) (q .0) (q .1) (q .2) (l .0) (l .1) (ap (k .reading) (sym (here .sees)) ∙ l .2) in
+    let u = record-wrong ws (k .reading) (h .message) (h .more) (h .opens) (l .0) (l .1) (ap (k .reading) (sym (h .here .sees)) ∙ l .2) in
     record {
-      answer = ap Err (l .3 ∙ ap (λ r. fault-at r (l .0)) (at-before start′ s (q .1) here (l .1)) ∙ fault-front start′ (l .0) (l .1) refl) ∙ sym (ap unpack-answer u);
+      answer = ap Err (l .3 ∙ ap (λ r. fault-at r (l .0)) (at-before (for-record start) s (h .more) (h .here) (l .1)) ∙ fault-front (for-record start) (l .0) (l .1) refl) ∙ sym (ap unpack-answer u);
       clock = c .bottom-in-Err .ensures ∙ sym (ap clock-unpacked u);
       value = c .load .ensures .after ∙ ap (read-or (k .least)) (l .2) ∙ sym (ap (record-unpacked (k .least)) u);
       exact = tt;
@@ -59,15 +54,10 @@ returns-then-end-words g c =
     let k = g .C·Crdt in
     let ws = c .args .words .now in
     let start : Reader = record { words = c .args .words; place = 0; layer = layer.Message } in
-    let start′ : Reader = record { words = c .args .words; place = 0; layer = layer.Record } in
-    let at : Reader → Reader = λ r. record { words = r .words; place = r .place; layer = layer.Record } in
-    let s = at (c .read-header .last .reader) in
-    let q = header-ok start (opening ws) _ (c .in-Continue-header .ensures tt .answer) in
-    let stands : s ≡ before start′ (q .1) = ap at (c .read-header .ensures .reader ∙ ap (λ x. before start (rest x)) (q .2)) in
-    let here = at-record start′ s refl (q .0) (q .1) (q .2) stands in
+    let s = for-record (c .read-header .last .reader) in
+    let h = stands-at-record start (c .read-header .last .reader) refl _ (c .in-Continue-header .ensures tt .answer) (c .read-header .ensures .reader) in
     let l = load-ok s (k .reading (left s)) _ (c .in-Ok .ensures tt .answer) in
-    let place = l .3 ∙ place-after start′ s refl (q .0) (q .1) (q .2) stands (l .1) in
-    let u = record-left ws (k .reading) (q .0) (q .1) (q .2) (l .0) (l .1) (ap (k .reading) (sym (here .sees)) ∙ l .2) (λ (e : length ws - length (l .1) ≡ length ws). c .if-end-words .taken (place ∙ e)) in
+    let u = record-left ws (k .reading) (h .message) (h .more) (h .opens) (l .0) (l .1) (ap (k .reading) (sym (h .here .sees)) ∙ l .2) (λ (e : length ws - length (l .1) ≡ length ws). c .if-end-words .taken (l .3 ∙ h .place-after (l .1) ∙ e)) in
     record {
       answer = sym (ap unpack-answer u);
       clock = c .bottom-then-end-words .ensures ∙ sym (ap clock-unpacked u);
@@ -81,25 +71,20 @@ returns g c =
     let k = g .C·Crdt in
     let ws = c .args .words .now in
     let start : Reader = record { words = c .args .words; place = 0; layer = layer.Message } in
-    let start′ : Reader = record { words = c .args .words; place = 0; layer = layer.Record } in
-    let at : Reader → Reader = λ r. record { words = r .words; place = r .place; layer = layer.Record } in
-    let s = at (c .read-header .last .reader) in
-    let q = header-ok start (opening ws) _ (c .in-Continue-header .ensures tt .answer) in
-    let m = q .0 in
-    let stands : s ≡ before start′ (q .1) = ap at (c .read-header .ensures .reader ∙ ap (λ x. before start (rest x)) (q .2)) in
-    let here = at-record start′ s refl m (q .1) (q .2) stands in
+    let s = for-record (c .read-header .last .reader) in
+    let h = stands-at-record start (c .read-header .last .reader) refl _ (c .in-Continue-header .ensures tt .answer) (c .read-header .ensures .reader) in
+    let m = h .message in
     let l = load-ok s (k .reading (left s)) _ (c .in-Ok .ensures tt .answer) in
     let v = l .0 in
-    let place = l .3 ∙ place-after start′ s refl m (q .1) (q .2) stands (l .1) in
-    let u = record-read ws (k .reading) m (q .1) (q .2) v (l .1) (ap (k .reading) (sym (here .sees)) ∙ l .2) (sym place ∙ c .if-end-words .left) in
+    let u = record-read ws (k .reading) m (h .more) (h .opens) v (l .1) (ap (k .reading) (sym (h .here .sees)) ∙ l .2) (sym (l .3 ∙ h .place-after (l .1)) ∙ c .if-end-words .left) in
     let laws = both-ways k (g .C·Crdt·met .reads) (g .C·Crdt·met .exact) in
-    let clock = c .read-header .ensures .clock ∙ ap clock-opened (q .2) in
+    let clock = c .read-header .ensures .clock ∙ ap clock-opened (h .opens) in
     let value = c .load .ensures .after ∙ ap (read-or (k .least)) (l .2) in
-    let h = c .in-Continue-header .header in
+    let header = c .in-Continue-header .header in
     record {
-      answer = ap Ok (q .3 ∙ bare-with m v) ∙ sym (ap unpack-answer u);
+      answer = ap Ok (h .header ∙ bare-with m v) ∙ sym (ap unpack-answer u);
       clock = clock ∙ clock-with m v ∙ sym (ap clock-unpacked u);
       value = value ∙ record-with m v ∙ sym (ap (record-unpacked (k .least)) u);
-      exact = laws .only ws (with-record m v) u .0 ∙ ap (packed k) (sym (ap (λ x. message-of h x (k .value (c .load .last .self))) clock ∙ ap (message-of h _) value ∙ message-is h m v (q .3)));
+      exact = laws .only ws (with-record m v) u .0 ∙ ap (packed k) (sym (ap (λ x. message-of header x (k .value (c .load .last .self))) clock ∙ ap (message-of header _) value ∙ message-is header m v (h .header)));
       law = laws;
     }

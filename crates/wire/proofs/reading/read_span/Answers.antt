@@ -1,14 +1,13 @@
-use mathlib.Core.Bool.{false, _&&_}
-use mathlib.Core.Path.{_≡_, sym, ap, _∙_}
+use mathlib.Core.Bool.{false}
+use mathlib.Core.Path.{sym, ap, _∙_}
 use Prim.Native.Nat.{_%_, _^_, _<_}
 use native.Mathlib.Omega.{arith}
 use lib.Dec.{ltb, leb}
-use lib.ListN.{drop}
 use Rattle.std.proofs.shelf.Results.{err-from-errBy}
 use Rattle.std.proofs.shelf.Tests.{lt-ltb, le-leb, and-from, true≢false}
 use Rattle.std.specs.declared.result.Result.the-variants.{Ok, Err}
-use Rattle.words.specs.Readings.{rest, left, before, fault-at}
-use Rattle.wire.specs.Openings.{found, span-reading}
+use Rattle.words.specs.Readings.{rest, left, before}
+use Rattle.wire.specs.Openings.{found}
 use Rattle.wire.specs.Answers.{reading-answer}
 use Rattle.wire.proofs.Steps.{at-fault}
 use Rattle.wire.proofs.Ways.{found-ok, found-err, at-to, to-wrong, to-low, to-high, at-past}
