@@ -2,15 +2,15 @@
 use mathlib.Core.Path.{_≡_, refl, sym, ap, _∙_}
 use mathlib.Core.List.{List, [], _∷_, _++_, append-assoc}
 use mathlib.Core.Bool.{Bool, true, false, cond, not, _||_, _&&_}
-use mathlib.Core.Logic.{_⊎_, inl, inr, ⊎-elim}
+use mathlib.Core.Logic.{_⊎_, ⊎-elim}
 use Prim.Native.Nat.{ℕ, zero, suc, _+_, _-_, _*_, _/_, _%_, _^_, _≤_, _<_}
 use native.Mathlib.Nat.{zero-add, add-zero}
 use native.Mathlib.Omega.{arith}
-use lib.Dec.{leb, eqb, lit<}
+use lib.Dec.{leb, eqb, lit<, lit≤}
 use lib.ListN.{length, getD, take, drop, replicate}
 use Rattle.std.specs.declared.result.Result.{Result}
 use Rattle.std.specs.declared.result.Result.the-variants.{Ok, Err}
-use Rattle.std.proofs.shelf.Lists.{append-nil, length-append, length-take-le, length-take, length-drop, take-append-drop, take-append-le, drop-append-le, drop-drop, take-at, drop-at, take-all, take-take, drop-take, length-replicate, drop-replicate, getD-take}
+use Rattle.std.proofs.shelf.Lists.{length-append, length-take-le, length-take, length-drop, take-append-le, drop-append-le, drop-drop, take-at, drop-at, take-take, drop-take, length-replicate, drop-replicate, getD-take}
 use Rattle.std.proofs.shelf.Parts.{between-to-end}
 use Rattle.std.proofs.shelf.Tests.{and-parts, and-from, eq-eqb, ne-eqb, eqb-true, leb-true, le-leb, false≢true, cases-eq}
 use Rattle.words.specs.Words.{kind, formed, zero-run}
@@ -19,9 +19,9 @@ use Rattle.words.specs.Refusals.{value-or}
 use Rattle.words.specs.Readings.{Told}
 use Rattle.mailboxes.specs.Mailboxes.{sized}
 use Rattle.layouts.specs.Rows.{head, sized-from}
-use Rattle.layouts.specs.Pages.{le-bytes, be-bytes, bytes-of, word-at, page-of, page-length, page-closed}
+use Rattle.layouts.specs.Pages.{le-bytes, be-bytes, bytes-of, word-at, page-of, page-closed}
 use Rattle.layouts.specs.Mounts.{all-zero, well, full, wrong, page-check, mount-next, mount-pages, paged, mount-check, mounted-pages, pages-sound, whole, Foreign-refused}
-use Rattle.layouts.proofs.PageBytes.{length-bytes-of, length-page-of, page-head, page-size}
+use Rattle.layouts.proofs.PageBytes.{length-bytes-of, page-head, page-size}
 
 -- zero bytes
 pub all-zero-replicate : (n : ℕ) → all-zero (replicate n 0) ≡ true
@@ -374,40 +374,41 @@ accepts pages held bs ne w e =
     (ap (λ x. cond x (mount-pages (length bs / 512) 0 0 false bs) (Err (wrong 16 0))) g ∙ ap (λ x. mount-pages x 0 0 false bs) d ∙ mounts-sound pages held 0 0 bs e ∙ ap Ok (zero-add held), d)
 
 -- a page head in the other byte order
-module _ (bs : List ℕ) (n : ℕ) (few : 1 ≤ n) (most : n ≤ 127) (is : take 4 bs ≡ be-bytes (head n)) where
-  foreign-byte : (i : ℕ) → i < 4 → getD (take 512 bs) i 0 ≡ getD (be-bytes (head n)) i 0
-  foreign-byte i h = getD-take 512 bs i 0 (omega arith) ∙ sym (getD-take 4 bs i 0 h) ∙ ap (λ x. getD x i 0) is
+module _ (page : List ℕ) (n : ℕ) (few : 1 ≤ n) (short : n ≤ 127) (is : take 4 page ≡ be-bytes (head n)) where
+  foreign-byte : (i : ℕ) → i < 4 → getD page i 0 ≡ getD (be-bytes (head n)) i 0
+  foreign-byte i h = sym (getD-take 4 page i 0 h) ∙ ap (λ x. getD x i 0) is
 
-  foreign-word : word-at (take 512 bs) 0 ≡ 240 + n * 2 ^ 24
+  foreign-word : word-at page 0 ≡ 240 + n * 2 ^ 24
   foreign-word =
-      let a : getD (take 512 bs) 0 0 ≡ head n / 2 ^ 24 % 256 = foreign-byte 0 (lit< tt) in
-      let b : getD (take 512 bs) 1 0 ≡ head n / 2 ^ 16 % 256 = foreign-byte 1 (lit< tt) in
-      let c : getD (take 512 bs) 2 0 ≡ head n / 2 ^ 8 % 256 = foreign-byte 2 (lit< tt) in
-      let d : getD (take 512 bs) 3 0 ≡ head n % 256 = foreign-byte 3 (lit< tt) in
-      let w = digits n most in
+      let a : getD page 0 0 ≡ head n / 2 ^ 24 % 256 = foreign-byte 0 (lit< tt) in
+      let b : getD page 1 0 ≡ head n / 2 ^ 16 % 256 = foreign-byte 1 (lit< tt) in
+      let c : getD page 2 0 ≡ head n / 2 ^ 8 % 256 = foreign-byte 2 (lit< tt) in
+      let d : getD page 3 0 ≡ head n % 256 = foreign-byte 3 (lit< tt) in
+      let w = digits n short in
       omega (arith, a, b, c, d, w)
     where
       digits : (n : ℕ) → n ≤ 127 → (head n / 2 ^ 24 % 256 ≡ 240) × (head n / 2 ^ 16 % 256 ≡ 0) × (head n / 2 ^ 8 % 256 ≡ 0) × (head n % 256 ≡ n)
       digits n h = (omega arith, omega arith, omega arith, omega arith)
 
-  foreign-page : page-check 0 false (take 512 bs) ≡ Err (wrong 10 0)
-  foreign-page =
+  foreign-page : (at : ℕ) (seen : Bool) → page-check at seen page ≡ Err (wrong 10 at)
+  foreign-page at seen =
       let w = foreign-word in
-      let nz : word-at (take 512 bs) 0 ≡ 0 → ⊥ = λ z. omega (arith, w, z) in
-      let k : kind (word-at (take 512 bs) 0) ≡ 15 → ⊥ = λ z. not-head n most (sym (ap kind w) ∙ z) in
-      rw (ne-eqb (word-at (take 512 bs) 0) 0 nz, ne-eqb (kind (word-at (take 512 bs) 0)) 15 k) refl
+      let nz : word-at page 0 ≡ 0 → ⊥ = λ z. omega (arith, w, z) in
+      let k : kind (word-at page 0) ≡ 15 → ⊥ = λ z. not-head n short (sym (ap kind w) ∙ z) in
+      rw (ne-eqb (word-at page 0) 0 nz, ne-eqb (kind (word-at page 0)) 15 k) refl
     where
       not-head : (n : ℕ) → n ≤ 127 → kind (240 + n * 2 ^ 24) ≡ 15 → ⊥
       not-head n h e = omega arith
 
-  pub foreign-refused : paged (length bs) ≡ true → mount-check bs ≡ Err (wrong 10 0)
-  foreign-refused g =
-      let p = paged-parts (length bs) g in
-      let j : length bs / 512 ≡ suc (length bs / 512 - 1) = omega (arith, p .0, p .2) in
-      ap (λ x. cond x (mount-pages (length bs / 512) 0 0 false bs) (Err (wrong 16 0))) g
-      ∙ ap (λ x. mount-pages x 0 0 false bs) j
-      ∙ ap (λ r. mount-next r (mount-pages (length bs / 512 - 1) (0 + 512) (0 + 1) false (drop 512 bs)) (mount-pages (length bs / 512 - 1) (0 + 512) 0 true (drop 512 bs))) foreign-page
+foreign-first : (bs : List ℕ) (n : ℕ) → 1 ≤ n → n ≤ 127 → paged (length bs) ≡ true → take 4 bs ≡ be-bytes (head n) → mount-check bs ≡ Err (wrong 10 0)
+foreign-first bs n few short g is =
+    let p = paged-parts (length bs) g in
+    let j : length bs / 512 ≡ suc (length bs / 512 - 1) = omega (arith, p .0, p .2) in
+    let first : take 4 (take 512 bs) ≡ be-bytes (head n) = take-take 4 512 bs (lit≤ tt) ∙ is in
+    mount-sized bs g
+    ∙ ap (λ x. mount-pages x 0 0 false bs) j
+    ∙ ap (λ r. mount-next r (mount-pages (length bs / 512 - 1) (0 + 512) (0 + 1) false (drop 512 bs)) (mount-pages (length bs / 512 - 1) (0 + 512) 0 true (drop 512 bs))) (foreign-page (take 512 bs) n few short first 0 false)
 
 -- so it is of the check's answer
 pub foreign-answer : (bs : List ℕ) (r : Result ℕ Told) → r ≡ mount-check bs → Foreign-refused bs r
-foreign-answer bs r e n few most g is = e ∙ foreign-refused bs n few most is g
+foreign-answer bs r e = (λ at seen page n few short is. foreign-page page n few short is at seen, λ n few short g is. e ∙ foreign-first bs n few short g is)

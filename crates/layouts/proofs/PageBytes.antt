@@ -1,14 +1,14 @@
 -- The bytes of a page, and the words that they are read as. Assumes nothing.
 use mathlib.Core.Path.{_≡_, refl, sym, ap, _∙_}
 use mathlib.Core.List.{List, [], _∷_, _++_, append-assoc}
-use Prim.Native.Nat.{ℕ, zero, suc, min, max, _+_, _-_, _*_, _/_, _%_, _^_, _≤_, _<_}
-use native.Mathlib.Nat.{zero-add, add-zero, add-assoc, div-div-eq-div-mul}
+use Prim.Native.Nat.{ℕ, zero, suc, _+_, _-_, _*_, _/_, _%_, _^_, _≤_, _<_}
+use native.Mathlib.Nat.{zero-add, add-assoc, div-div-eq-div-mul}
 use native.Mathlib.Omega.{arith}
 use borrow.Rule.Slice.PartMut.{putMid}
-use lib.ListN.{length, getD, take, drop, set, replicate}
+use lib.ListN.{length, getD, take, drop, replicate}
 use lib.Seq.{paste}
-use Rattle.std.proofs.shelf.Lists.{append-nil, length-append, length-take-le, length-drop, take-append-drop, drop-drop, take-at, drop-at, take-all, length-replicate, drop-replicate, take-more, getD-drop, take-take}
-use Rattle.std.proofs.shelf.Edits.{paste-none, paste-more, length-paste, take-paste, drop-paste, paste-all}
+use Rattle.std.proofs.shelf.Lists.{append-nil, length-append, length-take-le, length-drop, drop-drop, take-at, drop-at, length-replicate, drop-replicate, take-more, getD-drop, take-take}
+use Rattle.std.proofs.shelf.Edits.{take-paste, drop-paste}
 use Rattle.layouts.specs.Rows.{head}
 use Rattle.layouts.specs.Pages.{le-bytes, bytes-of, words-of, word-at, page-length, page-message, page-of}
 

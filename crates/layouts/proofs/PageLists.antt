@@ -1,19 +1,16 @@
 -- The messages of a row of pages. Assumes nothing.
 use mathlib.Core.Path.{_≡_, refl, sym, ap, _∙_}
 use mathlib.Core.List.{List, [], _∷_, _++_, append-assoc}
-use mathlib.Core.Bool.{Bool, true, false, cond, _||_, _&&_}
-use Prim.Native.Nat.{ℕ, zero, suc, min, max, _+_, _-_, _*_, _/_, _%_, _≤_, _<_}
-use native.Mathlib.Nat.{zero-add, add-zero}
+use Prim.Native.Nat.{ℕ, zero, suc, min, _+_, _-_, _*_, _≤_, _<_}
+use native.Mathlib.Nat.{zero-add}
 use native.Mathlib.Numerals.{add-one}
 use native.Mathlib.Omega.{arith}
-use lib.Dec.{ltb, leb, eqb}
-use lib.ListN.{length, getD, take, drop, set, replicate}
+use lib.ListN.{length, getD, take, drop, replicate}
 use lib.Seq.{paste}
-use Rattle.std.specs.shelf.Lists.{removed, All}
-use Rattle.std.proofs.shelf.Lists.{append-nil, length-append, length-take-le, length-drop, take-append-drop, take-append-le, drop-append-le, drop-drop, take-at, drop-at, take-all, length-replicate}
-use Rattle.std.proofs.shelf.Edits.{paste-none, length-paste, take-paste, drop-paste}
+use Rattle.std.specs.shelf.Lists.{removed}
+use Rattle.std.proofs.shelf.Lists.{length-take-le, length-drop, take-append-drop, take-append-le, drop-append-le, drop-drop, take-at, drop-at, take-all, length-replicate}
+use Rattle.std.proofs.shelf.Edits.{length-paste, take-paste}
 use Rattle.mailboxes.specs.Mailboxes.{counted}
-use Rattle.layouts.specs.Rows.{head}
 use Rattle.words.specs.Writes.{put}
 use Rattle.layouts.specs.Pages.{page-message, pages-of, page-of, page-closed}
 use Rattle.layouts.proofs.Rows.{paste-put}

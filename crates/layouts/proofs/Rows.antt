@@ -1,20 +1,18 @@
 -- What the words of a word store hold, and what a put and a discard make of them. Assumes nothing.
 use mathlib.Core.Path.{_≡_, refl, sym, ap, _∙_}
 use mathlib.Core.List.{List, [], _∷_, _++_, append-assoc}
-use mathlib.Core.Bool.{Bool, true, false, cond, _||_, _&&_}
-use Prim.Native.Nat.{ℕ, zero, suc, min, _+_, _-_, _%_, _≤_, _<_}
-use native.Mathlib.Numerals.{add-one}
+use mathlib.Core.Bool.{Bool, true, _&&_}
+use Prim.Native.Nat.{ℕ, zero, suc, _+_, _-_, _%_, _≤_, _<_}
 use native.Mathlib.Omega.{arith}
-use lib.Dec.{ltb, leb, eqb}
+use lib.Dec.{ltb, leb}
 use lib.ListN.{length, getD, take, drop, set}
-use lib.Seq.{take-append-seam, drop-append-seam, drop-append-add, take-append-add, paste, take-suc, drop-cons}
+use lib.Seq.{take-append-seam, drop-append-seam, paste, drop-cons}
 use Rattle.std.specs.shelf.Lists.{removed, All}
-use Rattle.std.proofs.shelf.Lists.{append-nil, length-append, length-take-le, length-drop, length-take, take-append-drop, take-append-le, drop-append-le, getD-append-add, getD-append-left, getD-at, getD-take, getD-drop, take-take, take-more, drop-at, take-at, length-set, take-more-set, take-all, drop-take, set-split, getD-append-right, take-set-le, drop-set-lt}
-use Rattle.std.proofs.shelf.Edits.{take-paste, drop-paste, length-paste, paste-more, paste-none, length-removed}
-use Rattle.std.proofs.shelf.Tests.{and-parts, and-from, leb-true, le-leb, false≢true, cond-true, le-ltb, lt-ltb, eq-eqb}
-use Rattle.std.proofs.shelf.Ways.{tells}
+use Rattle.std.proofs.shelf.Lists.{append-nil, length-append, length-take-le, length-drop, take-append-drop, getD-at, getD-take, getD-drop, take-take, take-more, drop-at, take-at, length-set, take-more-set, take-all, drop-take, take-set-le}
+use Rattle.std.proofs.shelf.Edits.{take-paste, drop-paste, paste-more, length-removed}
+use Rattle.std.proofs.shelf.Tests.{and-parts, and-from, leb-true, le-leb, cond-true, le-ltb, lt-ltb, eq-eqb}
 use Rattle.mailboxes.specs.Mailboxes.{Message, sized, counted}
-use Rattle.layouts.specs.Rows.{head, laid, parsed, sound, row-takes, row-put, row-discard, sized-true, sized-from, sound-parsed}
+use Rattle.layouts.specs.Rows.{head, laid, parsed, sound, row-takes, row-put, row-discard, sized-from, sound-parsed}
 use Rattle.mailboxes.specs.Overflows.{all-append}
 use Rattle.words.specs.Writes.{put}
 use Rattle.words.proofs.Writes.{put-step}

@@ -7,7 +7,8 @@
 --     mount-pages n place held seen bs   what n pages from a place on are, where held messages came before them
 --     paged n                n bytes are 1 to 128 whole pages
 --     mount-check bs         what the check of bytes answers: how many messages wait in them, or what is wrong
---     Foreign-refused bs r   where bytes begin with a page head of any message in the other byte order, r is 10 at byte 0
+--     Foreign-pages          a page that begins with a page head of any message in the other byte order is refused as 10, wherever it stands
+--     Foreign-refused bs r   where bytes begin so, r is 10 at byte 0
 --     mounted-pages r n      how many pages may be used of n bytes, where their check answered r
 --     wiped bs               what a wipe leaves of bytes
 --     pages-sound n held bs  n pages: held of messages, and then zero bytes
@@ -63,8 +64,11 @@ paged n = not (eqb n 0) && (leb n 65536 && eqb (n % 512) 0)
 abbrev pub mount-check : List ℕ → Result ℕ Told
 mount-check bs = cond (paged (length bs)) (mount-pages (length bs / 512) 0 0 false bs) (Err (wrong 16 0))
 
+abbrev pub Foreign-pages : Type 0
+Foreign-pages = (at : ℕ) (seen : Bool) (page : List ℕ) (n : ℕ) → 1 ≤ n → n ≤ most → take 4 page ≡ be-bytes (head n) → page-check at seen page ≡ Err (wrong 10 at)
+
 abbrev pub Foreign-refused : List ℕ → Result ℕ Told → Type 0
-Foreign-refused bs r = (n : ℕ) → 1 ≤ n → n ≤ most → paged (length bs) ≡ true → take 4 bs ≡ be-bytes (head n) → r ≡ Err (wrong 10 0)
+Foreign-refused bs r = Foreign-pages × ((n : ℕ) → 1 ≤ n → n ≤ most → paged (length bs) ≡ true → take 4 bs ≡ be-bytes (head n) → r ≡ Err (wrong 10 0))
 
 abbrev pub mounted-pages : Result ℕ Told → ℕ → ℕ
 mounted-pages (Ok held) n = n / 512

@@ -1,6 +1,6 @@
 -- The worked bytes of page heads. Assumes nothing.
 --     Worked-pages   the page head of 9 words is the bytes 09 00 00 F0; in the other order they read as kind 0, and the page is refused as 10
-use mathlib.Core.Bool.{Bool, false}
+use mathlib.Core.Bool.{false}
 use mathlib.Core.List.{List, [], _∷_}
 use mathlib.Core.Path.{_≡_}
 use Prim.Native.Nat.{ℕ}

@@ -11,9 +11,9 @@ use Rattle.std.specs.shelf.Lists.{removed}
 use Rattle.std.specs.declared.result.Result.{Result}
 use Rattle.std.specs.declared.result.Result.the-variants.{Ok, Err}
 use Rattle.std.proofs.shelf.Lists.{append-nil, length-append, getD-append-left, getD-append-right, take-append-le, drop-append-le, nil-from-length}
-use Rattle.std.proofs.shelf.Tests.{lt-ltb, le-ltb, eq-eqb, ne-eqb}
+use Rattle.std.proofs.shelf.Tests.{lt-ltb, eq-eqb, ne-eqb}
 use Rattle.std.proofs.shelf.Ways.{tells}
-use Rattle.mailboxes.specs.Mailboxes.{counted, put-answer, put-leaves, read-answer, read-leaves, discard-answer, discard-leaves, Kept}
+use Rattle.mailboxes.specs.Mailboxes.{counted, put-leaves, read-answer, read-leaves, discard-answer, discard-leaves, Kept}
 use Rattle.mailboxes.specs.Overflows.{to-first, spills}
 
 pub kept-at : {X Y T E : Type 0} (f : X → Y) (r : Result T E) (was is : X) → Kept r was is → Kept r (f was) (f is)

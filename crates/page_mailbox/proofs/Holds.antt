@@ -1,24 +1,23 @@
 -- What the invariant of a page store says of its messages and of their pages. Assumes nothing.
 use mathlib.Core.Path.{_≡_, refl, sym, ap, _∙_}
 use mathlib.Core.List.{List, [], _∷_, _++_}
-use mathlib.Core.Bool.{Bool, true, cond, _&&_}
-use Prim.Native.Nat.{ℕ, _+_, _-_, _*_, _^_, _≤_, _<_, min}
+use mathlib.Core.Bool.{true}
+use Prim.Native.Nat.{ℕ, _+_, _-_, _*_, _^_, _≤_, _<_}
 use native.Mathlib.Omega.{arith}
 use native.Mathlib.Numerals.{add-one}
 use lib.Dec.{ltb}
 use lib.ListN.{length, getD, take, drop}
-use lib.Seq.{paste}
 use Rattle.std.specs.shelf.Lists.{removed}
 use Rattle.std.proofs.shelf.Lists.{take-all}
 use Rattle.std.proofs.shelf.Tests.{and-parts, ltb-true, lt-ltb, le-ltb, cond-true}
 use Rattle.words.specs.Writes.{put}
 use Rattle.mailboxes.specs.Mailboxes.{sized, counted}
 use Rattle.layouts.specs.Rows.{sized-from}
-use Rattle.layouts.specs.Pages.{page-of, pages-of, page-takes, page-put, page-closed, page-discard}
+use Rattle.layouts.specs.Pages.{page-of, pages-of, page-put, page-closed, page-discard}
 use Rattle.layouts.specs.Mounts.{full, pages-sound, whole}
 use Rattle.layouts.proofs.Rows.{paste-put}
 use Rattle.layouts.proofs.PageBytes.{length-page-of, page-back}
-use Rattle.layouts.proofs.PageLists.{length-pages, counted-pages, put-pages, closed-pages, length-closed, moved-down, moved-down-is}
+use Rattle.layouts.proofs.PageLists.{length-pages, counted-pages, put-pages, closed-pages, length-closed, moved-down-is}
 use Rattle.layouts.proofs.Mounts
 use Rattle.page_mailbox.specs.declared.PageMailbox.{PageMailbox}
 use Rattle.page_mailbox.specs.Stores.{memory-of, waiting-of, takes-of}

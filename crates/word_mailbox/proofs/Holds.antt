@@ -1,7 +1,7 @@
 -- What the invariant of a word store says of its messages and of their places. Assumes nothing.
-use mathlib.Core.Path.{_≡_, refl, sym, ap, _∙_}
+use mathlib.Core.Path.{_≡_, sym, ap, _∙_}
 use mathlib.Core.List.{List, [], _∷_, _++_}
-use mathlib.Core.Bool.{Bool, true, _&&_}
+use mathlib.Core.Bool.{true}
 use Prim.Native.Nat.{ℕ, _+_, _-_, _%_, _≤_, _<_}
 use native.Mathlib.Omega.{arith}
 use lib.Dec.{leb}
@@ -11,8 +11,8 @@ use Rattle.std.specs.shelf.Lists.{removed, All}
 use Rattle.std.proofs.shelf.Tests.{le-leb}
 use Rattle.std.proofs.shelf.Lists.{length-set, length-drop}
 use Rattle.std.proofs.shelf.Edits.{length-paste}
-use Rattle.mailboxes.specs.Mailboxes.{Message, sized, counted}
-use Rattle.layouts.specs.Rows.{head, laid, parsed, sound, row-takes, row-put, row-discard, sized-from}
+use Rattle.mailboxes.specs.Mailboxes.{Message, counted}
+use Rattle.layouts.specs.Rows.{head, laid, parsed, sound, row-put, row-discard, sized-from}
 use Rattle.layouts.proofs.Rows
 use Rattle.word_mailbox.specs.declared.WordMailbox.{WordMailbox}
 use Rattle.word_mailbox.specs.Stores.{memory-of, waiting-of, takes-of}

@@ -3,7 +3,6 @@
 --     waiting-of t   the messages in them
 --     takes-of t n   whether it takes a message of n words: with its page head it fits behind those that wait, in at most 4,096 words
 --     check-answer n what the check of n words answers: done, or 16
-use mathlib.Core.Path.{_≡_}
 use mathlib.Core.Bool.{Bool, cond}
 use mathlib.Core.List.{List}
 use Prim.Native.Nat.{ℕ}
@@ -13,7 +12,7 @@ use Rattle.std.specs.declared.result.Result.{Result}
 use Rattle.std.specs.declared.result.Result.the-variants.{Ok, Err}
 use Rattle.words.specs.declared.fault.Layer.the-variants.{Mailbox}
 use Rattle.words.specs.Readings.{Told}
-use Rattle.mailboxes.specs.Mailboxes.{Message, Lawful}
+use Rattle.mailboxes.specs.Mailboxes.{Lawful}
 use Rattle.layouts.specs.Rows.{parsed, row-takes, sound-parsed, row-sizes}
 use Rattle.word_mailbox.specs.declared.WordMailbox.{WordMailbox}
 

@@ -5,11 +5,10 @@ use Prim.Native.Nat.{ℕ, _+_, _-_, _*_, _≤_}
 use native.Mathlib.Omega.{arith}
 use lib.ListN.{length, take, drop, replicate}
 use lib.Seq.{paste}
-use Rattle.std.proofs.shelf.Lists.{length-take-le, length-drop, length-replicate, take-all}
+use Rattle.std.proofs.shelf.Lists.{length-take-le, length-drop}
 use Rattle.std.proofs.shelf.Edits.{paste-none, length-paste}
 use Rattle.std.proofs.shelf.Tests.{cases-eq}
 use Rattle.words.specs.Writes.{put}
-use Rattle.layouts.specs.Pages.{page-closed}
 use Rattle.layouts.proofs.Rows.{paste-put}
 use Rattle.layouts.proofs.PageBytes.{move-block}
 use Rattle.page_mailbox.proofs.PageMailbox.close.Needs as need

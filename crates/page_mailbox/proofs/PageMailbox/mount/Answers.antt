@@ -1,4 +1,3 @@
-use mathlib.Core.Bool.{true}
 use mathlib.Core.Path.{_≡_, refl, ap, _∙_}
 use lib.ListN.{length}
 use Rattle.words.specs.Refusals.{value-or}

@@ -1,4 +1,4 @@
-use mathlib.Core.Path.{_≡_, sym, ap, _∙_}
+use mathlib.Core.Path.{ap, _∙_}
 use lib.ListN.{length}
 use Rattle.words.specs.Refusals.{value-or}
 use Rattle.layouts.specs.Pages.{pages-of}

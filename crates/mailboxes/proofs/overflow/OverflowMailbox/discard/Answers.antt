@@ -1,7 +1,7 @@
-use mathlib.Core.Path.{_≡_, refl, ap, _∙_}
+use mathlib.Core.Path.{refl, ap, _∙_}
 use Prim.Native.Nat.{_-_, _<_, _≤_}
 use native.Mathlib.Omega.{arith}
-use Rattle.mailboxes.specs.Mailboxes.{counted, discard-answer, discard-leaves}
+use Rattle.mailboxes.specs.Mailboxes.{counted, discard-answer}
 use Rattle.mailboxes.proofs.Spills.{kept-at, discard-first, discard-second, discard-first-leaves, discard-second-leaves}
 use Rattle.mailboxes.proofs.overflow.OverflowMailbox.discard.Needs as need
 

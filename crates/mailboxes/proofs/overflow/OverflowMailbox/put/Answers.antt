@@ -3,7 +3,7 @@ use mathlib.Core.Path.{_≡_, refl, sym, ap, _∙_}
 use native.Mathlib.Omega.{arith}
 use lib.ListN.{length}
 use Rattle.std.proofs.shelf.Tests.{both-ways}
-use Rattle.mailboxes.specs.Mailboxes.{counted, put-answer, put-leaves}
+use Rattle.mailboxes.specs.Mailboxes.{counted, put-answer}
 use Rattle.mailboxes.specs.Overflows.{to-first, spills}
 use Rattle.mailboxes.proofs.Spills.{kept-at, first-takes, first-full, second-waits, spills-first, spills-second, put-first, put-second, put-first-leaves, put-second-leaves}
 use Rattle.mailboxes.proofs.overflow.OverflowMailbox.put.Needs as need

@@ -1,8 +1,7 @@
-use mathlib.Core.Path.{_≡_, refl, sym, ap, _∙_}
+use mathlib.Core.Path.{refl}
 use native.Mathlib.Omega.{arith}
-use lib.ListN.{length}
 use Rattle.layouts.proofs.Calls.{discard-past, discard-there}
-use Rattle.page_mailbox.specs.Stores.{memory-of, waiting-of}
+use Rattle.page_mailbox.specs.Stores.{waiting-of}
 use Rattle.page_mailbox.proofs.Holds.{room, held-few, held-is, close-ok, close-waiting, close-memory, discard-none}
 use Rattle.page_mailbox.proofs.calls.PageMailboxMailbox.discard.Needs as need
 

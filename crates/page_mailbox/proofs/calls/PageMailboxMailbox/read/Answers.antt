@@ -1,11 +1,10 @@
 use mathlib.Core.List.{[]}
-use mathlib.Core.Path.{_≡_, refl, sym, ap, _∙_}
-use Prim.Native.Nat.{_+_, _-_, _*_, _<_, _≤_}
+use mathlib.Core.Path.{_≡_, sym, ap, _∙_}
+use Prim.Native.Nat.{_+_, _-_, _*_, _≤_}
 use native.Mathlib.Omega.{arith}
 use lib.ListN.{length, getD, take, drop}
 use Rattle.std.proofs.shelf.Lists.{length-take-le, length-drop}
 use Rattle.words.specs.Writes.{put}
-use Rattle.mailboxes.specs.Mailboxes.{counted}
 use Rattle.layouts.specs.Pages.{page-message}
 use Rattle.layouts.specs.Mounts.{full}
 use Rattle.layouts.proofs.Calls.{read-past, read-there}

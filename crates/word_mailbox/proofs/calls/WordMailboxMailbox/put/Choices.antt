@@ -1,7 +1,6 @@
 use denote.Ref.{name}
 use mathlib.Core.Path.{_≡_}
 use Prim.Native.Nat.{_+_}
-use lib.ListN.{length, take, drop}
 use lib.Seq.{paste}
 use Rattle.word_mailbox.proofs.calls.WordMailboxMailbox.put.Given as given
 
