@@ -13,6 +13,7 @@ use Rattle.entries.specs.Sixteen.{tabulated}
 use Rattle.entries.specs.Rows.{Row, same-row}
 use Rattle.entries.specs.Entries.{row-reading}
 use Rattle.counters.specs.Counts.{larger, only, count-reported}
+use Rattle.layouts.proofs.Worked.{worked-pages}
 use Rattle.registers.specs.Bits.{packed}
 use Rattle.registers.specs.Members.{alone}
 use Rattle.cards.specs.Examples.{Worked-examples, five, five-and-two}
@@ -47,4 +48,5 @@ worked = record {
   sideways = refl;
   behind = refl;
   first-message = refl;
+  page-heads = worked-pages;
 }

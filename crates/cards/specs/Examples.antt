@@ -17,6 +17,7 @@ use Rattle.registers.specs.declared.gset.Member.{Member}
 use Rattle.registers.specs.Members.{none, alone, set-reported}
 use Rattle.registers.specs.Values.{level-of}
 use lib.IntN.{negsuc}
+use Rattle.layouts.specs.Worked.{Worked-pages}
 use Rattle.wire.specs.Messages.{delta, Clock, clock-written, packed-by}
 use Rattle.cards.specs.Cards.{Counter, net-of, card-written}
 
@@ -52,3 +53,5 @@ pub record Worked-examples : Type 0 where
   pub behind : compared (clock-of (1 ∷ [])) (clock-of (1 ∷ 2 ∷ [])) ≡ Behind
   -- with erased 5 and 2 at station 0, its first delta message
   pub first-message : packed-by {C = Clock} clock-written card-written (delta 0 0 2 ((five-and-two, (empty 16777215, empty 16777215)), (none, level-of 0))) ≡ 0x20000009 ∷ 0x30000000 ∷ 0x40000002 ∷ 0x60000007 ∷ 0x90000001 ∷ 0x90000000 ∷ 0x90000000 ∷ 0x90000000 ∷ 0x80000000 ∷ []
+  -- the page head of 9 words is the bytes 09 00 00 F0; F0 00 00 09 reads as kind 0 and is refused as 10
+  pub page-heads : Worked-pages

@@ -19,13 +19,18 @@ use std::error::AnyError;
 // The words of each message that waits.
 pub(crate) fn list_messages(rt: &LibcRuntime, image: &mut [u8; 4096]) -> Result<(), AnyError> {
     let mailbox = PageMailbox::mount(image);
-    let mut words = [0; 127];
     for k in 0..usize::from(mailbox.count()) {
-        let n = mailbox.read(k, &mut words).unwrap_or(0);
-        if n <= 127 {
-            let message = Hex(&words[0..n]);
-            println!(rt, "  message {k}: {message}")?;
-        }
+        show_message(rt, &mailbox, k)?;
+    }
+    Ok(())
+}
+
+fn show_message<M: Mailbox>(rt: &LibcRuntime, mailbox: &M, k: usize) -> Result<(), AnyError> {
+    let mut words = [0; 127];
+    let n = mailbox.read(k, &mut words).unwrap_or(0);
+    if n <= 127 {
+        let message = Hex(&words[0..n]);
+        println!(rt, "  message {k}: {message}")?;
     }
     Ok(())
 }

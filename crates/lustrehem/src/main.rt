@@ -24,6 +24,7 @@ use counters::g_counter::GCounterCrdt;
 use counters::vector_clock::VectorClockCrdt;
 use crdt::kind::Crdt;
 use crdt::pair::PairCrdt;
+use mailboxes::mailbox::Mailbox;
 use page_mailbox::PageMailbox;
 use page_mailbox::calls::PageMailboxMailbox;
 use registers::gset::GSetCrdt;
@@ -52,11 +53,16 @@ fn run(rt: &LibcRuntime) -> Result<(), AnyError> {
     let calls = calls();
     let mut image = [0u8; 4096];
     let mut stations = [blank(), blank(), blank()];
-    history(&mut stations, &mut image, &calls[0..NOON], None)?;
+    history(
+        &mut stations,
+        PageMailbox::wipe(&mut image),
+        &calls[0..NOON],
+    )?;
     println!(rt, "by noon, after {NOON} calls:")?;
     decide(rt, &stations[0])?;
     println!(rt, "the whole day:")?;
-    history(&mut stations, &mut image, &calls, Some(rt))?;
+    let answers = history(&mut stations, PageMailbox::wipe(&mut image), &calls)?;
+    list_answers(rt, &calls, &answers)?;
     println!(
         rt,
         "who has fetched a late full message from all others has everything:"
@@ -81,25 +87,30 @@ fn blank() -> Station<CardRecord> {
     }
 }
 
-// Runs calls on a wiped image, and prints each with its answer where it is given the runtime.
-fn history(
+// Runs calls on an empty mailbox, lets the mailbox go, and gives the answers.
+fn history<M: Mailbox + Drop>(
     stations: &mut [Station<CardRecord>],
-    image: &mut [u8; 4096],
+    mut mailbox: M,
     calls: &[Call<CardReport>],
-    rt: Option<&LibcRuntime>,
-) -> Result<(), AnyError> {
-    let mut mailbox = PageMailbox::wipe(image);
+) -> Result<[Answer; 30], AnyError> {
     let mut answers = [Answer::Done; 30];
     let mut words = [0; 127];
-    if replay(stations, &mut mailbox, calls, &mut answers, &mut words).is_err() {
-        return Err("the calls were not begun".into());
+    match replay(stations, &mut mailbox, calls, &mut answers, &mut words) {
+        Ok(()) => Ok(answers),
+        Err(_) => Err("the calls were not begun".into()),
     }
-    if let Some(rt) = rt {
-        for (call, answer) in calls.iter().zip(answers.iter()) {
-            let call = CallOf(call);
-            let answer = AnswerOf(answer);
-            println!(rt, "  {call}: {answer}")?;
-        }
+}
+
+// Each call with its answer.
+fn list_answers(
+    rt: &LibcRuntime,
+    calls: &[Call<CardReport>],
+    answers: &[Answer],
+) -> Result<(), AnyError> {
+    for (call, answer) in calls.iter().zip(answers.iter()) {
+        let call = CallOf(call);
+        let answer = AnswerOf(answer);
+        println!(rt, "  {call}: {answer}")?;
     }
     Ok(())
 }
