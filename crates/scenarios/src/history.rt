@@ -100,14 +100,9 @@ fn a_gap_is_refused_until_it_is_filled() -> Result<(), Fail> {
     check_eq(table[1].clock.count(1), 0)
 }
 
-#[test]
-fn each_layer_of_a_fault() -> Result<(), Fail> {
-    let mut table = [blank(), blank()];
-    let mut memory = [0; 64];
-    let mut words = [0; 127];
-    let mut few = [0; 126];
-    let mut mailbox = WordMailbox::open(&mut memory);
-    check_eq(init(&mut table), Ok(()))?;
+// Two stations, and a mailbox with a message whose record is wrong, one whose clock is, and one that claims a report of station 0.
+fn troubled<M: Mailbox>(table: &mut [Station<CardRecord>; 2], mailbox: &mut M) -> Result<(), Fail> {
+    check_eq(init(table), Ok(()))?;
     check_eq(
         mailbox.put(&[0x1100_0003, 0x9000_0000, 0x8000_0000]),
         Ok(()),
@@ -116,21 +111,27 @@ fn each_layer_of_a_fault() -> Result<(), Fail> {
         mailbox.put(&[0x1100_0003, 0x9000_0001, 0x8000_0000]),
         Ok(()),
     )?;
-    check_eq(
-        mailbox.put(
-            &[
-                0x1100_0008,
-                0x5000_0001,
-                0x9000_0001,
-                0x9000_0000,
-                0x9000_0000,
-                0x9000_0000,
-                0x9000_0000,
-                0x8000_0000,
-            ],
-        ),
-        Ok(()),
-    )?;
+    let ahead = [
+        0x1100_0008,
+        0x5000_0001,
+        0x9000_0001,
+        0x9000_0000,
+        0x9000_0000,
+        0x9000_0000,
+        0x9000_0000,
+        0x8000_0000,
+    ];
+    check_eq(mailbox.put(&ahead), Ok(()))
+}
+
+#[test]
+fn faults_of_records_messages_and_mailboxes() -> Result<(), Fail> {
+    let mut table = [blank(), blank()];
+    let mut memory = [0; 64];
+    let mut words = [0; 127];
+    let mut few = [0; 126];
+    let mut mailbox = WordMailbox::open(&mut memory);
+    troubled(&mut table, &mut mailbox)?;
     check_eq(
         fetch(&mut table, &mailbox, 0, 0, &mut words),
         faulted(0, 0, Refusal::Kind, 2, Layer::Record),
@@ -146,7 +147,16 @@ fn each_layer_of_a_fault() -> Result<(), Fail> {
     check_eq(
         fetch(&mut table, &mailbox, 0, 0, &mut few),
         faulted(0, 0, Refusal::Room, 0, Layer::Mailbox),
-    )?;
+    )
+}
+
+#[test]
+fn faults_of_stations() -> Result<(), Fail> {
+    let mut table = [blank(), blank()];
+    let mut memory = [0; 64];
+    let mut words = [0; 127];
+    let mut mailbox = WordMailbox::open(&mut memory);
+    troubled(&mut table, &mut mailbox)?;
     check_eq(
         fetch(&mut table, &mailbox, 0, 2, &mut words),
         faulted(0, 2, Refusal::Ahead, 0, Layer::Station),
