@@ -100,3 +100,44 @@ fn a_family_is_pulled_at_its_rated_cycles() -> Result<(), Fail> {
     check_eq(judge(59, 60), Verdict::GoesBack)?;
     check_eq(judge(60, 60), Verdict::Pulled)
 }
+
+// Two stored card records that stand for the same value: same size, words, deltas and refusals.
+#[test]
+fn spare_bits_of_a_card_say_nothing() -> Result<(), Fail> {
+    let mut clean: CardRecord = PairCrdt::bottom();
+    clean.left.left.counts[1] = 9;
+    clean.right.left.bits[15] = 0x8000;
+    clean.right.right.stored = 41;
+    let mut spare = clean;
+    spare.left.left.counts[1] = 0xFF00_0009;
+    spare.left.right.left.counts[3] = 0x0100_0000;
+    spare.right.left.bits[15] = 0x0001_8000;
+    spare.right.right.stored = 0xF000_0029;
+    check_eq(spare.size(), clean.size())?;
+    let mut first = [0; 20];
+    let mut second = [0; 20];
+    check_eq(clean.write(&mut first, 3), Ok(10))?;
+    check_eq(spare.write(&mut second, 3), Ok(10))?;
+    check_eq(first, second)?;
+    let mut delta = clean;
+    let mut other = spare;
+    check_eq(
+        clean.delta(1, card_record::erased(Amount(2)), &mut delta),
+        Ok(()),
+    )?;
+    check_eq(
+        spare.delta(1, card_record::erased(Amount(2)), &mut other),
+        Ok(()),
+    )?;
+    check_eq(delta.write(&mut first, 0), Ok(6))?;
+    check_eq(other.write(&mut second, 0), Ok(6))?;
+    check_eq(first, second)?;
+    check_eq(
+        spare.delta(1, card_record::retired(Member(256)), &mut other),
+        Err(Refusal::Range),
+    )?;
+    check_eq(
+        spare.delta(16, card_record::firmware(Revision(1)), &mut other),
+        Err(Refusal::Station),
+    )
+}

@@ -87,6 +87,21 @@ fn spare_bits_say_nothing() -> Result<(), Fail> {
     check_eq(clean.write(&mut first, 2), Ok(19))?;
     check_eq(spare.write(&mut second, 2), Ok(19))?;
     check_eq(first, second)?;
+    let mut delta = clean;
+    let mut other = spare;
+    check_eq(clean.delta(2, Amount(5), &mut delta), Ok(()))?;
+    check_eq(spare.delta(2, Amount(5), &mut other), Ok(()))?;
+    check_eq(delta.counts, other.counts)?;
+    check_eq(delta.count(2), 12)?;
+    check_eq(spare.delta(2, Amount(0), &mut other), Err(Refusal::Range))?;
+    check_eq(
+        spare.delta(16, Amount(1), &mut other),
+        Err(Refusal::Station),
+    )?;
+    let full = GCounter {
+        counts: [0x01FF_FFFF; 16],
+    };
+    check_eq(full.delta(2, Amount(1), &mut other), Err(Refusal::Limit))?;
     spare.join(&clean);
     check_eq(spare.total(), 112)
 }
