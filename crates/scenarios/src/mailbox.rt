@@ -112,10 +112,10 @@ fn page_memory_of_a_bad_size() -> Result<(), Fail> {
     check_eq(short[510], 9)
 }
 
-// Three pages with a message each, as bytes that were worked out by hand.
-fn image() -> [u8; 2048] {
+// Four pages, the first of them with a message each, as bytes that were worked out by hand.
+fn image(messages: usize) -> [u8; 2048] {
     let mut bytes = [0u8; 2048];
-    for page in 0..3 {
+    for page in 0..messages.min(4) {
         bytes[512 * page] = 1;
         bytes[512 * page + 3] = 0xF0;
         bytes[512 * page + 4] = 0x78;
@@ -126,7 +126,7 @@ fn image() -> [u8; 2048] {
 
 #[test]
 fn a_mounted_image() -> Result<(), Fail> {
-    let mut bytes = image();
+    let mut bytes = image(3);
     check_eq(PageMailbox::check(&bytes), Ok(3))?;
     let mailbox = PageMailbox::mount(&mut bytes);
     check_eq(mailbox.count(), 3)?;
@@ -135,34 +135,51 @@ fn a_mounted_image() -> Result<(), Fail> {
     check_eq(seen(&mailbox, 2), Ok((1, 0x1200_0078)))
 }
 
-// What the check answers where one byte of the image is another.
-fn with(place: usize, byte: u8) -> Result<usize, Fault> {
-    let mut bytes = image();
+// What the check answers where one byte of an image is another.
+fn with(messages: usize, place: usize, byte: u8) -> Result<usize, Fault> {
+    let mut bytes = image(messages);
     if place < 2048 {
         bytes[place] = byte;
     }
     PageMailbox::check(&bytes)
 }
 
+// In the first page, those in the middle and the last.
 #[test]
 fn pages_that_are_refused() -> Result<(), Fail> {
+    for page in 0..4 {
+        let first = 512 * page;
+        check_eq(with(4, first + 3, 0x80), wrong(Refusal::Kind, first))?;
+        check_eq(with(4, first + 1, 1), wrong(Refusal::Form, first))?;
+        check_eq(with(4, first, 128), wrong(Refusal::Form, first))?;
+        check_eq(with(4, first, 0), wrong(Refusal::Form, first))?;
+        check_eq(with(4, first + 8, 1), wrong(Refusal::Form, first))?;
+        check_eq(with(4, first + 511, 1), wrong(Refusal::Form, first))?;
+    }
+    Ok(())
+}
+
+// A byte that is not zero in a page with a zero head, and a page head after such a page.
+#[test]
+fn empty_pages_that_are_refused() -> Result<(), Fail> {
+    for page in 0..4 {
+        let first = 512 * page;
+        check_eq(with(page, first + 4, 1), wrong(Refusal::Form, first))?;
+        check_eq(with(page, first + 511, 1), wrong(Refusal::Form, first))?;
+    }
     for page in 0..3 {
         let first = 512 * page;
-        check_eq(with(first + 3, 0x80), wrong(Refusal::Kind, first))?;
-        check_eq(with(first + 1, 1), wrong(Refusal::Form, first))?;
-        check_eq(with(first, 128), wrong(Refusal::Form, first))?;
-        check_eq(with(first, 0), wrong(Refusal::Form, first))?;
-        check_eq(with(first + 8, 1), wrong(Refusal::Form, first))?;
-        check_eq(with(first + 511, 1), wrong(Refusal::Form, first))?;
+        let mut bytes = image(4);
+        bytes[first] = 0;
+        bytes[first + 3] = 0;
+        bytes[first + 4] = 0;
+        bytes[first + 7] = 0;
+        check_eq(
+            PageMailbox::check(&bytes),
+            wrong(Refusal::Form, first + 512),
+        )?;
     }
-    check_eq(with(1536 + 100, 1), wrong(Refusal::Form, 1536))?;
-    check_eq(with(1536 + 3, 0xF0), wrong(Refusal::Form, 1536))?;
-    let mut bytes = image();
-    bytes[512] = 0;
-    bytes[515] = 0;
-    bytes[516] = 0;
-    bytes[519] = 0;
-    check_eq(PageMailbox::check(&bytes), wrong(Refusal::Form, 1024))
+    Ok(())
 }
 
 // The head of a message in the other byte order reads as a word of kind 0.
