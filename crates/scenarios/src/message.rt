@@ -190,6 +190,7 @@ fn a_wrong_clock() -> Result<(), Fail> {
     check_eq(damaged(FULL, 1, 0x6100_0001), in_message(Refusal::Kind, 1))?;
     check_eq(damaged(FULL, 1, 0x5101_0001), in_message(Refusal::Form, 1))?;
     check_eq(damaged(FULL, 1, 0x5100_0000), in_message(Refusal::Form, 1))?;
+    check_eq(damaged(FULL, 2, 0x6000_0001), in_message(Refusal::Kind, 2))?;
     check_eq(damaged(FULL, 2, 0x9000_0002), in_message(Refusal::Form, 2))?;
     check_eq(damaged(FULL, 2, 0x9000_0021), in_message(Refusal::Form, 2))?;
     check_eq(damaged(FULL, 2, 0x5000_0001), in_message(Refusal::Form, 2))?;
@@ -217,7 +218,11 @@ fn a_wrong_span() -> Result<(), Fail> {
 fn a_wrong_record() -> Result<(), Fail> {
     check_eq(damaged(FULL, 3, 0x5100_001E), in_record(Refusal::Kind, 3))?;
     check_eq(damaged(FULL, 3, 0x6100_0000), in_record(Refusal::Form, 3))?;
+    check_eq(damaged(FULL, 4, 0x8000_0001), in_record(Refusal::Kind, 4))?;
     check_eq(damaged(FULL, 4, 0x9000_0000), in_record(Refusal::Form, 4))?;
+    check_eq(damaged(DELTA, 3, 0x7000_0007), in_record(Refusal::Kind, 3))?;
+    check_eq(damaged(DELTA, 3, 0x6000_0000), in_record(Refusal::Form, 3))?;
+    check_eq(damaged(DELTA, 4, 0x5000_0001), in_record(Refusal::Kind, 4))?;
     check_eq(damaged(DELTA, 4, 0x9000_0041), in_record(Refusal::Form, 4))?;
     check_eq(
         answer(&[0x2000_0003, 0x3000_0000, 0x4000_0002]),
