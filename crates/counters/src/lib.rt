@@ -1,4 +1,6 @@
 // Records of sixteen counts, one a station, joined by the larger count.
+#![tactic(auto)]
+
 pub mod clock_order;
 mod counts;
 pub mod g_counter;

@@ -1,4 +1,6 @@
 // Fetching: what a station makes of a message that waits.
+#![tactic(auto)]
+
 pub mod fault;
 pub mod fetch;
 mod hear;

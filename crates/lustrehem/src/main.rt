@@ -1,5 +1,7 @@
 // The program: the built-in task, a script of calls, and what is on a card image. All that it prints is written by this crate, and all
 // that it does by the proved calls below it.
+#![tactic(auto)]
+
 mod cluster;
 mod day;
 mod failure;

@@ -1,4 +1,6 @@
 // Messages between stations: packing them into given words, and opening and unpacking the words of one.
+#![tactic(auto)]
+
 pub mod header;
 pub mod open;
 pub mod opened;

@@ -1,5 +1,7 @@
 // A mailbox over lent bytes in pages of 512: message k is page k. The bytes are what travels between stations, so every word is written
 // and read by arithmetic, its lowest byte first, whatever the machine's own order is.
+#![tactic(auto)]
+
 ghost use Rattle.std.specs.Prelude.{◌≡◌, true, length};
 ghost use Rattle.layouts.specs.Mounts.{pages_sound, whole};
 

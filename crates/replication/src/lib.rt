@@ -1,4 +1,6 @@
 // The calls of a cluster, a table of stations and a mailbox, and the replay of a list of them.
+#![tactic(auto)]
+
 pub mod answer;
 pub mod call;
 pub mod mail;

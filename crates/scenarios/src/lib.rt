@@ -1,4 +1,6 @@
 // Examples that are run. What is expected stands in the documents, or was worked out by hand.
+#![tactic(auto)]
+
 #[cfg(test)]
 mod card;
 #[cfg(test)]

@@ -1,4 +1,6 @@
 // One line of a script: its words, and what it asks for.
+#![tactic(auto)]
+
 pub mod command;
 pub mod expected;
 mod keywords;

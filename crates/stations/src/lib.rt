@@ -1,4 +1,6 @@
 // Stations as they are stored, and what one station does by itself.
+#![tactic(auto)]
+
 pub mod init;
 pub mod report;
 pub mod station;

@@ -1,5 +1,7 @@
 // A mailbox over lent words: each message lies behind its page head, one after another from the first word on.
 // What is used is held beside the words, so that a put, a count and a query whether a message fits walk over nothing.
+#![tactic(auto)]
+
 ghost use Rattle.std.specs.Prelude.{◌≡◌, ◌≤◌, true, length, take};
 ghost use Rattle.layouts.specs.Rows.{sound};
 
