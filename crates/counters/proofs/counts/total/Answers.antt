@@ -7,8 +7,8 @@ use Rattle.counters.proofs.counts.total.Goals as goal
 pub loop-count-init : goal.loop-count-init
 loop-count-init c = record { so_far = refl; small = omega arith }
 
-pub overflow-add-sum-in-loop-count : goal.overflow-add-sum-in-loop-count
-overflow-add-sum-in-loop-count c =
+pub overflow_add-sum-in-loop-count : goal.overflow_add-sum-in-loop-count
+overflow_add-sum-in-loop-count c =
     let x = get_or c.args.counts.now c.loop-count.count_index 0 in
     let below = mod_below x (c.top.result + 1) (omega arith) in
     let s = c.loop-count.invariant.small in

@@ -15,14 +15,14 @@ use Rattle.entries.proofs.load.fill.Goals as goal
 none_read : (top : ℕ) (xs : List ℕ) (x : Reading (Row top)) (n : ℕ) (ws : List ℕ) → x ≡ wrong n ws → read_is x (row_of top xs)
 none_read top xs x n ws e = let Is : Reading (Row top) → Type 0 = λ y. read_is y (row_of top xs) in subst Is (sym e) tt
 
-pub returns-in-default : goal.returns-in-default
-returns-in-default c =
+pub returns-in_default : goal.returns-in_default
+returns-in_default c =
     let k = entry_number c.args.kind in
     let top = top_of c.args.kind in
     let start = c.args.reader.now in
     let r = c.loop-word.reader in
     let so = c.loop-word.invariant in
-    let is : row_reading k top (left start) ≡ wrong 12 (left r) = read_ended k top start r _ _ _ so c.in-default.ensures in
+    let is : row_reading k top (left start) ≡ wrong 12 (left r) = read_ended k top start r _ _ _ so c.in_default.ensures in
     let stands = stands_before k top start r _ _ _ so in
     record {
       answer = answer_wrong start r (row_reading k top (left start)) stands 12 _ c.fault.ensures is;

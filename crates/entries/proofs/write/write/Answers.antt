@@ -8,8 +8,8 @@ use Rattle.entries.proofs.Turns.{moved, Writing, writing_start, writing_next, wr
 use Rattle.entries.proofs.write.write.Goals as goal
 use Rattle.entries.proofs.write.write.Goals.{then-number-ne0, else-number-ne0}
 
-pub returns-then-saturating-sub-all : goal.returns-then-saturating-sub-all
-returns-then-saturating-sub-all c =
+pub returns-then-saturating_sub-all : goal.returns-then-saturating_sub-all
+returns-then-saturating_sub-all c =
     let ws = row_written (entry_number c.args.kind) (row_of (top_of c.args.kind) c.args.row.now) in
     let all : c.size-all.result ≡ length ws = c.size-all.ensures.value in
     let few : length ws ≤ 127 = (let b = c.size-all.ensures.bound in omega arith) in

@@ -48,8 +48,8 @@ returns-in-Err-read g c =
       words = c.read.ensures.words ∙ sym (ap (λ x. fetch_leaves x ws k old) e);
     }
 
-pub slice-bounds-receive-end : goal.slice-bounds-receive-end
-slice-bounds-receive-end g c =
+pub slice_bounds-receive-end : goal.slice_bounds-receive-end
+slice_bounds-receive-end g c =
     let K = g.C.Crdt in
     let ws = g.M.Mailbox.waiting c.args.mailbox.now in
     let old = c.args.words.now in

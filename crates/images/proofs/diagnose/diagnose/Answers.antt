@@ -14,7 +14,7 @@ use Rattle.images.proofs.diagnose.diagnose.Goals as goal
 pub explain-requires : goal.explain-requires
 explain-requires c =
     let bs = c.args.bytes.now in
-    let p = refused bs (told_fault c.in-Err.fault) (sym c.in-Err.ensures.answer) (λ n. c.in-default.not-Memory (memory_number c.in-Err.fault.refusal n)) in
+    let p = refused bs (told_fault c.in-Err.fault) (sym c.in-Err.ensures.answer) (λ n. c.in_default.not-Memory (memory_number c.in-Err.fault.refusal n)) in
     record { page = p.1.0; size = (paged_parts (length bs) p.0).1 }
 
 pub returns-in-Ok : goal.returns-in-Ok
@@ -42,12 +42,12 @@ returns-in-Memory c =
       turned = λ own held is ok some. answer ∙ turned_found bs small own held is ok some;
     }
 
-pub returns-in-default : goal.returns-in-default
-returns-in-default c =
+pub returns-in_default : goal.returns-in_default
+returns-in_default c =
     let bs = c.args.bytes.now in
     let f = told_fault c.in-Err.fault in
     let e = sym c.in-Err.ensures.answer in
-    let ne : f.number ≡ 16 → ⊥ = λ n. c.in-default.not-Memory (memory_number c.in-Err.fault.refusal n) in
+    let ne : f.number ≡ 16 → ⊥ = λ n. c.in_default.not-Memory (memory_number c.in-Err.fault.refusal n) in
     let small : (i : ℕ) → get_or bs i 0 < 256 = λ i. omega (arith, c.type-inv.bytes i) in
     let d = told_diagnosis c.explain.result in
     let answer = sym (diagnosis_some bs f d e ne c.explain.ensures) in

@@ -17,14 +17,14 @@ loop-init g c = unchanged g.C.Crdt _
 pub loop-preserved : goal.loop-preserved
 loop-preserved g c = then g.C.Crdt _ _ _ c.loop.invariant c.obey.ensures.lines
 
-pub returns-in-err-announce : goal.returns-in-err-announce
-returns-in-err-announce g c = record { lines = unchanged g.C.Crdt _; promised = promised_of g }
+pub returns-in_err-announce : goal.returns-in_err-announce
+returns-in_err-announce g c = record { lines = unchanged g.C.Crdt _; promised = promised_of g }
 
-pub returns-in-err-obey : goal.returns-in-err-obey
-returns-in-err-obey g c = record { lines = then g.C.Crdt _ _ _ c.loop.invariant c.obey.ensures.lines; promised = promised_of g }
+pub returns-in_err-obey : goal.returns-in_err-obey
+returns-in_err-obey g c = record { lines = then g.C.Crdt _ _ _ c.loop.invariant c.obey.ensures.lines; promised = promised_of g }
 
-pub returns-in-err-next : goal.returns-in-err-next
-returns-in-err-next g c = record { lines = c.loop.invariant; promised = promised_of g }
+pub returns-in_err-next : goal.returns-in_err-next
+returns-in_err-next g c = record { lines = c.loop.invariant; promised = promised_of g }
 
 pub returns-in-None : goal.returns-in-None
 returns-in-None g c = record { lines = c.loop.invariant; promised = promised_of g }

@@ -11,43 +11,43 @@ use Rattle.wire.proofs.Ways.{header_ok, header_err, end_low, opened_full, opened
 use Rattle.messages.specs.Headers.{header_parts, open_told}
 use Rattle.messages.proofs.open.open.Goals as goal
 
-pub returns-in-err-header : goal.returns-in-err-header
-returns-in-err-header c =
+pub returns-in_err-header : goal.returns-in_err-header
+returns-in_err-header c =
     let ws = c.args.words.now in
     let start : Reader = record { words = c.args.words; place = 0; layer = layer.Message } in
-    let p = err_from_is_err_and c.from-residual.result c.from-residual.ensures.1 in
-    let q = header_err start (opening ws) _ c.in-err-header.ensures.answer in
+    let p = err_from_is_err_and c.from_residual.result c.from_residual.ensures.1 in
+    let q = header_err start (opening ws) _ c.in_err-header.ensures.answer in
     record {
       answer = ap open_told (p.1 ∙ ap Err p.2) ∙ ap Err (q.3 ∙ fault_front start q.0 q.1 refl) ∙ sym (ap (open_answer ws) q.2);
-      whole = MatchResult-from_err _ _ _ c.from-residual.ensures.0 (λ _. tt);
-      sound = MatchResult-from_err _ _ _ c.from-residual.ensures.0 (λ _. tt);
+      whole = MatchResult-from_err _ _ _ c.from_residual.ensures.0 (λ _. tt);
+      sound = MatchResult-from_err _ _ _ c.from_residual.ensures.0 (λ _. tt);
     }
 
-pub slice-bounds-result-count : goal.slice-bounds-result-count
-slice-bounds-result-count c =
+pub slice_bounds-result-count : goal.slice_bounds-result-count
+slice_bounds-result-count c =
     let ws = c.args.words.now in
     let start : Reader = record { words = c.args.words; place = 0; layer = layer.Message } in
-    let q = header_ok start (opening ws) _ c.in-ok-header.ensures.answer in
-    let at : c.read-header.new.reader.place ≡ 0 + length ws - length q.1 = ap (λ (r : Reader). r.place) (c.read-header.ensures.reader ∙ ap (λ x. before start (rest x)) q.2) in
-    end_low ws q.0 q.1 q.2 c.read-header.new.reader.place (omega arith)
+    let q = header_ok start (opening ws) _ c.in_ok-header.ensures.answer in
+    let at : c.read_header.new.reader.place ≡ 0 + length ws - length q.1 = ap (λ (r : Reader). r.place) (c.read_header.ensures.reader ∙ ap (λ x. before start (rest x)) q.2) in
+    end_low ws q.0 q.1 q.2 c.read_header.new.reader.place (omega arith)
 
-pub slice-bounds-result-start : goal.slice-bounds-result-start
-slice-bounds-result-start c =
+pub slice_bounds-result-start : goal.slice_bounds-result-start
+slice_bounds-result-start c =
     let ws = c.args.words.now in
     let start : Reader = record { words = c.args.words; place = 0; layer = layer.Message } in
-    let q = header_ok start (opening ws) _ c.in-ok-header.ensures.answer in
-    let at : c.read-header.new.reader.place ≡ 0 + length ws - length q.1 = ap (λ (r : Reader). r.place) (c.read-header.ensures.reader ∙ ap (λ x. before start (rest x)) q.2) in
-    let low : 1 ≤ c.read-header.new.reader.place = end_low ws q.0 q.1 q.2 c.read-header.new.reader.place (omega arith) in
+    let q = header_ok start (opening ws) _ c.in_ok-header.ensures.answer in
+    let at : c.read_header.new.reader.place ≡ 0 + length ws - length q.1 = ap (λ (r : Reader). r.place) (c.read_header.ensures.reader ∙ ap (λ x. before start (rest x)) q.2) in
+    let low : 1 ≤ c.read_header.new.reader.place = end_low ws q.0 q.1 q.2 c.read_header.new.reader.place (omega arith) in
     search rules
 
 pub returns-in-Full : goal.returns-in-Full
 returns-in-Full c =
     let ws = c.args.words.now in
     let start : Reader = record { words = c.args.words; place = 0; layer = layer.Message } in
-    let q = header_ok start (opening ws) _ c.in-ok-header.ensures.answer in
+    let q = header_ok start (opening ws) _ c.in_ok-header.ensures.answer in
     let b = ap header_parts (sym c.in-Full.is) ∙ q.3 in
-    let end = c.read-header.new.reader.place in
-    let at : end ≡ 0 + length ws - length q.1 = ap (λ (r : Reader). r.place) (c.read-header.ensures.reader ∙ ap (λ x. before start (rest x)) q.2) in
+    let end = c.read_header.new.reader.place in
+    let at : end ≡ 0 + length ws - length q.1 = ap (λ (r : Reader). r.place) (c.read_header.ensures.reader ∙ ap (λ x. before start (rest x)) q.2) in
     let is : end ≡ length ws - length q.1 = omega arith in
     let answer = opened_full ws q.0 q.1 q.2 end is c.in-Full.sender b in
     record {
@@ -60,11 +60,11 @@ pub returns-in-Delta : goal.returns-in-Delta
 returns-in-Delta c =
     let ws = c.args.words.now in
     let start : Reader = record { words = c.args.words; place = 0; layer = layer.Message } in
-    let q = header_ok start (opening ws) _ c.in-ok-header.ensures.answer in
+    let q = header_ok start (opening ws) _ c.in_ok-header.ensures.answer in
     let b = ap header_parts (sym c.in-Delta.is) ∙ q.3 in
     let span = c.in-Delta.span in
-    let end = c.read-header.new.reader.place in
-    let at : end ≡ 0 + length ws - length q.1 = ap (λ (r : Reader). r.place) (c.read-header.ensures.reader ∙ ap (λ x. before start (rest x)) q.2) in
+    let end = c.read_header.new.reader.place in
+    let at : end ≡ 0 + length ws - length q.1 = ap (λ (r : Reader). r.place) (c.read_header.ensures.reader ∙ ap (λ x. before start (rest x)) q.2) in
     let is : end ≡ length ws - length q.1 = omega arith in
     let answer = opened_delta ws q.0 q.1 q.2 end is c.in-Delta.sender span.from span.to b in
     record {

@@ -9,8 +9,8 @@ use Rattle.wire.proofs.Laws.{both_ways}
 use Rattle.wire.proofs.Packs.{answered, leaves_headed, pack_on, pack_refused, pack_fits, pack_back}
 use Rattle.messages.proofs.pack.pack_full.Goals as goal
 
-pub returns-in-err-words : goal.returns-in-err-words
-returns-in-err-words g c =
+pub returns-in_err-words : goal.returns-in_err-words
+returns-in_err-words g c =
     let k = g.C.Crdt in
     let v = k.value c.args.record.now in
     let time = clock_of c.args.clock.now.counts in
@@ -19,12 +19,12 @@ returns-in-err-words g c =
     let n = 1 + c.size.result + c.size-2.result in
     let all = length-append a b in
     let same : min n 128 ≡ min (suc (length (a ++ b))) 128 = omega (arith, c.size.ensures, c.size-2.ensures) in
-    let p = err_from_is_err_and c.from-residual.result c.from-residual.ensures.1 in
-    let q = pack_refused k (full c.args.sender time v) c.args.words.now 1 n _ same c.in-err-words.ensures in
+    let p = err_from_is_err_and c.from_residual.result c.from_residual.ensures.1 in
+    let q = pack_refused k (full c.args.sender time v) c.args.words.now 1 n _ same c.in_err-words.ensures in
     record {
       answer = ap numbered (p.1 ∙ ap Err p.2) ∙ q.0;
       words = q.1;
-      back = MatchResult-from_err _ _ _ c.from-residual.ensures.0 (λ _. tt);
+      back = MatchResult-from_err _ _ _ c.from_residual.ensures.0 (λ _. tt);
     }
 
 pub returns : goal.returns
@@ -37,18 +37,18 @@ returns g c =
     let old = c.args.words.now in
     let m = full c.args.sender time v in
     let n = 1 + c.size.result + c.size-2.result in
-    let h = c.in-ok-words.field-0.0 in
-    let next = c.in-ok-next.next in
+    let h = c.in_ok-words.field-0.0 in
+    let next = c.in_ok-next.next in
     let mid = c.write.new.words in
     let all = length-append a b in
     let same : min n 128 ≡ min (suc (length (a ++ b))) 128 = omega (arith, c.size.ensures, c.size-2.ensures) in
-    let fit = pack_fits k m old 1 n h same c.in-ok-words.ensures in
+    let fit = pack_fits k m old 1 n h same c.in_ok-words.ensures in
     let size : n ≡ suc (length (a ++ b)) = fit.1 in
     let few : suc (length a + length b) ≤ 127 = omega (arith, fit.2, size) in
     let room : suc (length a + length b) ≤ length old = omega (arith, fit.3, size) in
     let head : h ≡ head_word 1 c.args.sender (suc (length (a ++ b))) = fit.4 ∙ ap (head_word 1 c.args.sender) size in
     let kept = length-set old 0 h in
-    let next-is : next ≡ 1 + length a = answered next (1 + length a) (c.in-ok-next.ensures.answer ∙ answer_fits (length (set old 0 h)) 1 (length a) (omega arith) (omega arith)) in
+    let next-is : next ≡ 1 + length a = answered next (1 + length a) (c.in_ok-next.ensures.answer ∙ answer_fits (length (set old 0 h)) 1 (length a) (omega arith) (omega arith)) in
     let mid-is : mid ≡ write_leaves (set old 0 h) 1 a = c.write.ensures.words in
     let long : length mid ≡ length old = ap length mid-is ∙ length_leaves (set old 0 h) 1 a (omega arith) (omega arith) ∙ kept in
     let on = pack_on k m old fit.0 in

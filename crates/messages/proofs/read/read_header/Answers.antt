@@ -10,11 +10,11 @@ use Rattle.wire.proofs.Ways.{found_ok, found_err, at_body, as_full, as_delta, re
 use Rattle.messages.specs.Headers.{header_told}
 use Rattle.messages.proofs.read.read_header.Goals as goal
 
-pub returns-in-err-word : goal.returns-in-err-word
-returns-in-err-word c =
+pub returns-in_err-word : goal.returns-in_err-word
+returns-in_err-word c =
     let start = c.args.reader.now in
-    let p = err_from_is_err_and c.from-residual.result c.from-residual.ensures.1 in
-    let q = found_err start (head_found (left start)) _ c.in-err-word.ensures in
+    let p = err_from_is_err_and c.from_residual.result c.from_residual.ensures.1 in
+    let q = found_err start (head_found (left start)) _ c.in_err-word.ensures in
     let e = ap (head_read clock_reading (left start)) q.1 in
     let stands = (at_start start).stands in
     record {
@@ -23,18 +23,18 @@ returns-in-err-word c =
       reader = stands ∙ sym (ap (λ x. before start (rest x)) e);
     }
 
-pub returns-in-err-load : goal.returns-in-err-load
-returns-in-err-load c =
+pub returns-in_err-load : goal.returns-in_err-load
+returns-in_err-load c =
     let start = c.args.reader.now in
     let s = c.step.new.self in
-    let w = c.in-ok-word.word.0 in
+    let w = c.in_ok-word.word.0 in
     let x = clock_reading (left s) in
-    let head = found_ok start (head_found (left start)) w c.in-ok-word.ensures in
+    let head = found_ok start (head_found (left start)) w c.in_ok-word.ensures in
     let at = at_body start s w head c.step.ensures in
     let e = as_full start s w head c.step.ensures (sym c.if-is.ensures) in
-    let p = err_from_is_err_and c.from-residual-in-err-load.result c.from-residual-in-err-load.ensures.1 in
+    let p = err_from_is_err_and c.from_residual-in_err-load.result c.from_residual-in_err-load.ensures.1 in
     record {
-      answer = ap header_told (p.1 ∙ ap Err p.2) ∙ full_broken start s _ at (index w) _ x c.in-err-load.ensures.answer ∙ sym (ap (header_answer start) e);
+      answer = ap header_told (p.1 ∙ ap Err p.2) ∙ full_broken start s _ at (index w) _ x c.in_err-load.ensures.answer ∙ sym (ap (header_answer start) e);
       clock = c.load.ensures.after ∙ full_clock (index w) x ∙ sym (ap clock_opened e);
       reader = c.load.ensures.reader ∙ at_before start s _ at (rest x) ∙ sym (ap (before start) (ap rest e ∙ rest_mapped (full_from (index w)) x));
     }
@@ -43,45 +43,45 @@ pub returns-then-is : goal.returns-then-is
 returns-then-is c =
     let start = c.args.reader.now in
     let s = c.step.new.self in
-    let w = c.in-ok-word.word.0 in
+    let w = c.in_ok-word.word.0 in
     let x = clock_reading (left s) in
-    let head = found_ok start (head_found (left start)) w c.in-ok-word.ensures in
+    let head = found_ok start (head_found (left start)) w c.in_ok-word.ensures in
     let at = at_body start s w head c.step.ensures in
     let e = as_full start s w head c.step.ensures (sym c.if-is.ensures) in
     record {
-      answer = ap (λ i. Ok (full i tt tt)) c.index-sender.ensures.value ∙ full_done start s _ at (index w) _ x c.in-ok-load.ensures.answer ∙ sym (ap (header_answer start) e);
+      answer = ap (λ i. Ok (full i tt tt)) c.index-sender.ensures.value ∙ full_done start s _ at (index w) _ x c.in_ok-load.ensures.answer ∙ sym (ap (header_answer start) e);
       clock = c.load.ensures.after ∙ full_clock (index w) x ∙ sym (ap clock_opened e);
       reader = c.load.ensures.reader ∙ at_before start s _ at (rest x) ∙ sym (ap (before start) (ap rest e ∙ rest_mapped (full_from (index w)) x));
     }
 
-pub returns-in-err-span : goal.returns-in-err-span
-returns-in-err-span c =
+pub returns-in_err-span : goal.returns-in_err-span
+returns-in_err-span c =
     let start = c.args.reader.now in
     let s = c.step.new.self in
-    let w = c.in-ok-word.word.0 in
+    let w = c.in_ok-word.word.0 in
     let x = span_reading (left s) in
-    let head = found_ok start (head_found (left start)) w c.in-ok-word.ensures in
+    let head = found_ok start (head_found (left start)) w c.in_ok-word.ensures in
     let at = at_body start s w head c.step.ensures in
     let e = as_delta start s w head c.step.ensures (sym c.if-is.ensures) in
-    let p = err_from_is_err_and c.from-residual-in-err-span.result c.from-residual-in-err-span.ensures.1 in
+    let p = err_from_is_err_and c.from_residual-in_err-span.result c.from_residual-in_err-span.ensures.1 in
     record {
-      answer = ap header_told (p.1 ∙ ap Err p.2) ∙ delta_broken start s _ at (index w) _ x c.in-err-span.ensures.answer ∙ sym (ap (header_answer start) e);
+      answer = ap header_told (p.1 ∙ ap Err p.2) ∙ delta_broken start s _ at (index w) _ x c.in_err-span.ensures.answer ∙ sym (ap (header_answer start) e);
       clock = c.bottom.ensures ∙ delta_clock (index w) x ∙ sym (ap clock_opened e);
-      reader = c.read-span.ensures.reader ∙ at_before start s _ at (rest x) ∙ sym (ap (before start) (ap rest e ∙ rest_mapped (delta_from (index w)) x));
+      reader = c.read_span.ensures.reader ∙ at_before start s _ at (rest x) ∙ sym (ap (before start) (ap rest e ∙ rest_mapped (delta_from (index w)) x));
     }
 
 pub returns : goal.returns
 returns c =
     let start = c.args.reader.now in
     let s = c.step.new.self in
-    let w = c.in-ok-word.word.0 in
+    let w = c.in_ok-word.word.0 in
     let x = span_reading (left s) in
-    let head = found_ok start (head_found (left start)) w c.in-ok-word.ensures in
+    let head = found_ok start (head_found (left start)) w c.in_ok-word.ensures in
     let at = at_body start s w head c.step.ensures in
     let e = as_delta start s w head c.step.ensures (sym c.if-is.ensures) in
-    let span = c.in-ok-span.span in
+    let span = c.in_ok-span.span in
     record {
-      answer = ap (λ i. Ok (delta i span.from span.to tt)) c.index-sender.ensures.value ∙ delta_done start s _ at (index w) (span.from, span.to) x c.in-ok-span.ensures.answer ∙ sym (ap (header_answer start) e);
+      answer = ap (λ i. Ok (delta i span.from span.to tt)) c.index-sender.ensures.value ∙ delta_done start s _ at (index w) (span.from, span.to) x c.in_ok-span.ensures.answer ∙ sym (ap (header_answer start) e);
       clock = c.bottom.ensures ∙ delta_clock (index w) x ∙ sym (ap clock_opened e);
-      reader = c.read-span.ensures.reader ∙ at_before start s _ at (rest x) ∙ sym (ap (before start) (ap rest e ∙ rest_mapped (delta_from (index w)) x));
+      reader = c.read_span.ensures.reader ∙ at_before start s _ at (rest x) ∙ sym (ap (before start) (ap rest e ∙ rest_mapped (delta_from (index w)) x));
     }

@@ -13,19 +13,19 @@ use Rattle.messages.specs.Headers.{header_told, message_of}
 use Rattle.messages.proofs.Results.{message_is}
 use Rattle.messages.proofs.unpack.unpack.Goals as goal
 
-pub returns-in-err-header : goal.returns-in-err-header
-returns-in-err-header g c =
+pub returns-in_err-header : goal.returns-in_err-header
+returns-in_err-header g c =
     let k = g.C.Crdt in
     let ws = c.args.words.now in
     let start : Reader = record { words = c.args.words; place = 0; layer = layer.Message } in
-    let p = err_from_is_err_and c.from-residual.result c.from-residual.ensures.1 in
-    let q = header_err start (opening ws) _ c.in-err-header.ensures.answer in
+    let p = err_from_is_err_and c.from_residual.result c.from_residual.ensures.1 in
+    let q = header_err start (opening ws) _ c.in_err-header.ensures.answer in
     let u = not_opened ws k.reading q.0 q.1 q.2 in
     record {
       answer = ap header_told (p.1 ∙ ap Err p.2) ∙ ap Err (q.3 ∙ fault_front start q.0 q.1 refl) ∙ sym (ap unpack_answer u);
-      clock = c.read-header.ensures.clock ∙ ap clock_opened q.2 ∙ sym (ap clock_unpacked u);
+      clock = c.read_header.ensures.clock ∙ ap clock_opened q.2 ∙ sym (ap clock_unpacked u);
       value = c.bottom.ensures ∙ sym (ap (record_unpacked k.least) u);
-      exact = MatchResult-from_err _ _ _ c.from-residual.ensures.0 (λ _. tt);
+      exact = MatchResult-from_err _ _ _ c.from_residual.ensures.0 (λ _. tt);
       law = both_ways k g.met.C.Crdt.reads g.met.C.Crdt.exact;
     }
 
@@ -34,8 +34,8 @@ returns-in-Err g c =
     let k = g.C.Crdt in
     let ws = c.args.words.now in
     let start : Reader = record { words = c.args.words; place = 0; layer = layer.Message } in
-    let s = for_record c.read-header.new.reader in
-    let h = stands_at_record start c.read-header.new.reader refl _ c.in-ok-header.ensures.answer c.read-header.ensures.reader in
+    let s = for_record c.read_header.new.reader in
+    let h = stands_at_record start c.read_header.new.reader refl _ c.in_ok-header.ensures.answer c.read_header.ensures.reader in
     let l = load_err s (k.reading (left s)) _ c.in-Err.ensures.answer in
     let u = record_wrong ws k.reading h.message h.more h.opens l.0 l.1 (ap k.reading (sym h.here.sees) ∙ l.2) in
     record {
@@ -51,8 +51,8 @@ returns-then-end-words g c =
     let k = g.C.Crdt in
     let ws = c.args.words.now in
     let start : Reader = record { words = c.args.words; place = 0; layer = layer.Message } in
-    let s = for_record c.read-header.new.reader in
-    let h = stands_at_record start c.read-header.new.reader refl _ c.in-ok-header.ensures.answer c.read-header.ensures.reader in
+    let s = for_record c.read_header.new.reader in
+    let h = stands_at_record start c.read_header.new.reader refl _ c.in_ok-header.ensures.answer c.read_header.ensures.reader in
     let l = load_ok s (k.reading (left s)) _ c.in-Ok.ensures.answer in
     let u = record_left ws k.reading h.message h.more h.opens l.0 l.1 (ap k.reading (sym h.here.sees) ∙ l.2) (λ (e : length ws - length l.1 ≡ length ws). c.if-end-words.true (l.3 ∙ h.place_after l.1 ∙ e)) in
     record {
@@ -68,16 +68,16 @@ returns g c =
     let k = g.C.Crdt in
     let ws = c.args.words.now in
     let start : Reader = record { words = c.args.words; place = 0; layer = layer.Message } in
-    let s = for_record c.read-header.new.reader in
-    let h = stands_at_record start c.read-header.new.reader refl _ c.in-ok-header.ensures.answer c.read-header.ensures.reader in
+    let s = for_record c.read_header.new.reader in
+    let h = stands_at_record start c.read_header.new.reader refl _ c.in_ok-header.ensures.answer c.read_header.ensures.reader in
     let m = h.message in
     let l = load_ok s (k.reading (left s)) _ c.in-Ok.ensures.answer in
     let v = l.0 in
     let u = record_read ws k.reading m h.more h.opens v l.1 (ap k.reading (sym h.here.sees) ∙ l.2) (sym (l.3 ∙ h.place_after l.1) ∙ c.if-end-words.false) in
     let laws = both_ways k g.met.C.Crdt.reads g.met.C.Crdt.exact in
-    let clock = c.read-header.ensures.clock ∙ ap clock_opened h.opens in
+    let clock = c.read_header.ensures.clock ∙ ap clock_opened h.opens in
     let value = c.load.ensures.after ∙ ap (read_or k.least) l.2 in
-    let header = c.in-ok-header.header in
+    let header = c.in_ok-header.header in
     record {
       answer = ap Ok (h.header ∙ bare_with m v) ∙ sym (ap unpack_answer u);
       clock = clock ∙ clock_with m v ∙ sym (ap clock_unpacked u);

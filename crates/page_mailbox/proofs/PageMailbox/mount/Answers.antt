@@ -12,8 +12,8 @@ pages-are c = c.extent-pages.ensures.pages ∙ ap (λ r. mounted_pages r (length
 held-are : (c : goal.After-extent-pages) → c.extent-pages.result.1 ≡ value_or 0 (mount_check c.args.bytes.now)
 held-are c = c.extent-pages.ensures.held ∙ ap (value_or 0) c.check.ensures.answer
 
-pub invariant-of-result : goal.invariant-of-result
-invariant-of-result c =
+pub invariant_of-result : goal.invariant_of-result
+invariant_of-result c =
     let bs = c.args.bytes.now in
     let ok = mounted_ok bs in (
       (

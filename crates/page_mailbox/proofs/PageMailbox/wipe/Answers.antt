@@ -3,8 +3,8 @@ use Rattle.layouts.specs.Mounts.{pages_sound, whole}
 use Rattle.layouts.proofs.Mounts.{sound_zeros, whole_from}
 use Rattle.page_mailbox.proofs.PageMailbox.wipe.Goals as goal
 
-pub invariant-of-result-2 : goal.invariant-of-result-2
-invariant-of-result-2 c =
+pub invariant_of-result-2 : goal.invariant_of-result-2
+invariant_of-result-2 c =
     let n = length c.args.bytes.now in
-    let g = sym c.if-not-is-paged.ensures in
+    let g = sym c.if-not-is_paged.ensures in
     ((ap (pages_sound (n / 512) 0) (c.fill.ensures.after (λ y e. e)) ∙ sound_zeros (n / 512) n, ap (whole (n / 512)) c.fill.ensures.len ∙ whole_from n g), tt)

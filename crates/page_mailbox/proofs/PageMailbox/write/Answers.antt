@@ -13,8 +13,8 @@ pub loop-i-init : goal.loop-i-init
 loop-i-init c =
     (paste_none c.args.self.now.bytes.now c.args.place c.args.page.now, c.requires.pages, c.requires.held, refl)
 
-pub invariant-of-self : goal.invariant-of-self
-invariant-of-self c = (unused c.loop-i.self.pages c.loop-i.self.held _ c.loop-i.invariant.1 c.loop-i.invariant.2, tt)
+pub invariant_of-self : goal.invariant_of-self
+invariant_of-self c = (unused c.loop-i.self.pages c.loop-i.self.held _ c.loop-i.invariant.1 c.loop-i.invariant.2, tt)
 
 pub loop-i-preserved : goal.loop-i-preserved
 loop-i-preserved c =

@@ -15,14 +15,14 @@ loop-i-preserved c =
     let i = c.loop-i.i in
     let n = page_length page in
     let s = page_message page in
-    let e : c.word-at.result % 256 ≡ n = ap (λ x. x % 256) c.word-at.ensures in
+    let e : c.word_at.result % 256 ≡ n = ap (λ x. x % 256) c.word_at.ensures in
     let lt : i < n = omega (arith, e, c.loop-i-test.true) in
-    let g : c.word-at-in-loop-i.result ≡ get_or s i 0 = c.word-at-in-loop-i.ensures ∙ sym (words_of_at n i (drop 4 page) lt ∙ word_at_drop page 4 (4 * i) (4 + 4 * i) refl) in
+    let g : c.word_at-in-loop-i.result ≡ get_or s i 0 = c.word_at-in-loop-i.ensures ∙ sym (words_of_at n i (drop 4 page) lt ∙ word_at_drop page 4 (4 * i) (4 + 4 * i) refl) in
     let ok = full_length page c.requires.full in
     let ls = length_words_of n (drop 4 page) in
     let a : 0 + i < length words = omega (arith, ok, c.requires.room) in
     let b : i < length s = omega (arith, ls) in
-    ap (λ x. set x i c.word-at-in-loop-i.result) c.loop-i.invariant ∙ ap (λ x. set (paste words 0 s i) i x) g ∙ ap (λ x. set (paste words 0 s i) x (get_or s i 0)) (sym (zero-add i)) ∙ paste_more words 0 s i 0 a b
+    ap (λ x. set x i c.word_at-in-loop-i.result) c.loop-i.invariant ∙ ap (λ x. set (paste words 0 s i) i x) g ∙ ap (λ x. set (paste words 0 s i) x (get_or s i 0)) (sym (zero-add i)) ∙ paste_more words 0 s i 0 a b
 
 pub returns : goal.returns
 returns c =
@@ -30,7 +30,7 @@ returns c =
     let words = c.args.words.now in
     let n = page_length page in
     let s = page_message page in
-    let e : c.word-at.result % 256 ≡ n = ap (λ x. x % 256) c.word-at.ensures in
+    let e : c.word_at.result % 256 ≡ n = ap (λ x. x % 256) c.word_at.ensures in
     let ls = length_words_of n (drop 4 page) in
     let i : c.loop-i.i ≡ length s = omega (arith, ls, e, c.loop-i.auto.i-end) in
     record {

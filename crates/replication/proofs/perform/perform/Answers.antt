@@ -21,11 +21,11 @@ returns-in-Report g c =
     let y = cluster_of K P ts m in
     let z = cluster_of K P c.report.new.stations m in
     let laws : Laws K = record { assoc = k.assoc; comm = k.comm; idem = k.idem; neutral = k.neutral; wire = both_ways K k.reads k.exact } in
-    let step : Step K y (asked room c.args.call.now) (told c.of-call.result) z = step_as K y z _ _ _ _ is c.of-call.ensures (step_report K P ts c.report.new.stations m _ _ c.report.result e.answer e.stations) in
+    let step : Step K y (asked room c.args.call.now) (told c.of_call.result) z = step_as K y z _ _ _ _ is c.of_call.ensures (step_report K P ts c.report.new.stations m _ _ c.report.result e.answer e.stations) in
     record {
       step = step;
       words = sym (ap (λ x. words_after K y x c.args.words.now) is);
-      refused = done_kept c.of-call.result ts c.report.new.stations m m c.report.result c.of-call.ensures e.refused (kept_self c.report.result m);
+      refused = done_kept c.of_call.result ts c.report.new.stations m m c.report.result c.of_call.ensures e.refused (kept_self c.report.result m);
       promised = goes_on K laws y z _ _ step;
     }
 
@@ -38,15 +38,15 @@ returns-in-SendDelta g c =
     let m = c.args.mailbox.now in
     let room = length c.args.words.now in
     let is = ap (asked room) c.in-SendDelta.is in
-    let e = c.send-delta.ensures in
+    let e = c.send_delta.ensures in
     let y = cluster_of K P ts m in
-    let z = cluster_of K P c.send-delta.new.stations c.send-delta.new.mailbox in
+    let z = cluster_of K P c.send_delta.new.stations c.send_delta.new.mailbox in
     let laws : Laws K = record { assoc = k.assoc; comm = k.comm; idem = k.idem; neutral = k.neutral; wire = both_ways K k.reads k.exact } in
-    let step : Step K y (asked room c.args.call.now) (told c.of-length.result) z = step_as K y z _ _ _ _ is c.of-length.ensures (step_send_delta K P ts c.send-delta.new.stations m c.send-delta.new.mailbox _ room c.send-delta.result e.answer e.stations e.mailbox e.refused.1) in
+    let step : Step K y (asked room c.args.call.now) (told c.of_length.result) z = step_as K y z _ _ _ _ is c.of_length.ensures (step_send_delta K P ts c.send_delta.new.stations m c.send_delta.new.mailbox _ room c.send_delta.result e.answer e.stations e.mailbox e.refused.1) in
     record {
       step = step;
       words = e.words ∙ sym (ap (λ x. words_after K y x c.args.words.now) is);
-      refused = length_kept c.of-length.result ts c.send-delta.new.stations m c.send-delta.new.mailbox c.send-delta.result c.of-length.ensures e.refused.0 e.refused.1;
+      refused = length_kept c.of_length.result ts c.send_delta.new.stations m c.send_delta.new.mailbox c.send_delta.result c.of_length.ensures e.refused.0 e.refused.1;
       promised = goes_on K laws y z _ _ step;
     }
 
@@ -59,15 +59,15 @@ returns-in-SendFull g c =
     let m = c.args.mailbox.now in
     let room = length c.args.words.now in
     let is = ap (asked room) c.in-SendFull.is in
-    let e = c.send-full.ensures in
+    let e = c.send_full.ensures in
     let y = cluster_of K P ts m in
-    let z = cluster_of K P ts c.send-full.new.mailbox in
+    let z = cluster_of K P ts c.send_full.new.mailbox in
     let laws : Laws K = record { assoc = k.assoc; comm = k.comm; idem = k.idem; neutral = k.neutral; wire = both_ways K k.reads k.exact } in
-    let step : Step K y (asked room c.args.call.now) (told c.of-length-in-SendFull.result) z = step_as K y z _ _ _ _ is c.of-length-in-SendFull.ensures (step_send_full K P ts m c.send-full.new.mailbox _ room c.send-full.result e.answer e.mailbox e.refused) in
+    let step : Step K y (asked room c.args.call.now) (told c.of_length-in-SendFull.result) z = step_as K y z _ _ _ _ is c.of_length-in-SendFull.ensures (step_send_full K P ts m c.send_full.new.mailbox _ room c.send_full.result e.answer e.mailbox e.refused) in
     record {
       step = step;
       words = e.words ∙ sym (ap (λ x. words_after K y x c.args.words.now) is);
-      refused = length_kept c.of-length-in-SendFull.result ts ts m c.send-full.new.mailbox c.send-full.result c.of-length-in-SendFull.ensures (kept_self c.send-full.result ts) e.refused;
+      refused = length_kept c.of_length-in-SendFull.result ts ts m c.send_full.new.mailbox c.send_full.result c.of_length-in-SendFull.ensures (kept_self c.send_full.result ts) e.refused;
       promised = goes_on K laws y z _ _ step;
     }
 
@@ -84,11 +84,11 @@ returns-in-Fetch g c =
     let y = cluster_of K P ts m in
     let z = cluster_of K P c.fetch.new.stations m in
     let laws : Laws K = record { assoc = k.assoc; comm = k.comm; idem = k.idem; neutral = k.neutral; wire = both_ways K k.reads k.exact } in
-    let step : Step K y (asked room c.args.call.now) (told c.of-fetch.result) z = step_as K y z _ _ _ _ is c.of-fetch.ensures (step_fetch K P ts c.fetch.new.stations m _ _ room _ e.answer e.stations) in
+    let step : Step K y (asked room c.args.call.now) (told c.of_fetch.result) z = step_as K y z _ _ _ _ is c.of_fetch.ensures (step_fetch K P ts c.fetch.new.stations m _ _ room _ e.answer e.stations) in
     record {
       step = step;
       words = e.words ∙ sym (ap (λ x. words_after K y x c.args.words.now) is);
-      refused = fetch_kept c.of-fetch.result ts c.fetch.new.stations m m c.fetch.result c.of-fetch.ensures e.refused (kept_self c.fetch.result m);
+      refused = fetch_kept c.of_fetch.result ts c.fetch.new.stations m m c.fetch.result c.of_fetch.ensures e.refused (kept_self c.fetch.result m);
       promised = goes_on K laws y z _ _ step;
     }
 
@@ -105,11 +105,11 @@ returns-in-Discard g c =
     let y = cluster_of K P ts m in
     let z = cluster_of K P ts c.discard.new.mailbox in
     let laws : Laws K = record { assoc = k.assoc; comm = k.comm; idem = k.idem; neutral = k.neutral; wire = both_ways K k.reads k.exact } in
-    let step : Step K y (asked room c.args.call.now) (told c.of-call-in-Discard.result) z = step_as K y z _ _ _ _ is c.of-call-in-Discard.ensures e.step in
+    let step : Step K y (asked room c.args.call.now) (told c.of_call-in-Discard.result) z = step_as K y z _ _ _ _ is c.of_call-in-Discard.ensures e.step in
     record {
       step = step;
       words = sym (ap (λ x. words_after K y x c.args.words.now) is);
-      refused = done_kept c.of-call-in-Discard.result ts ts m c.discard.new.mailbox c.discard.result c.of-call-in-Discard.ensures (kept_self c.discard.result ts) e.refused;
+      refused = done_kept c.of_call-in-Discard.result ts ts m c.discard.new.mailbox c.discard.result c.of_call-in-Discard.ensures (kept_self c.discard.result ts) e.refused;
       promised = goes_on K laws y z _ _ step;
     }
 
@@ -152,5 +152,5 @@ returns-in-Read g c =
     let e = c.read.ensures in
     let y = cluster_of K g.M.Mailbox ts m in
     let laws : Laws K = record { assoc = k.assoc; comm = k.comm; idem = k.idem; neutral = k.neutral; wire = both_ways K k.reads k.exact } in
-    let step : Step K y (asked room c.args.call.now) (told c.of-length-in-Read.result) y = step_as K y y _ _ _ _ is c.of-length-in-Read.ensures e.step in
-    record { step = step; words = e.words ∙ sym (ap (λ x. words_after K y x c.args.words.now) is); refused = length_kept c.of-length-in-Read.result ts ts m m c.read.result c.of-length-in-Read.ensures (kept_self c.read.result ts) (kept_self c.read.result m); promised = goes_on K laws y y _ _ step }
+    let step : Step K y (asked room c.args.call.now) (told c.of_length-in-Read.result) y = step_as K y y _ _ _ _ is c.of_length-in-Read.ensures e.step in
+    record { step = step; words = e.words ∙ sym (ap (λ x. words_after K y x c.args.words.now) is); refused = length_kept c.of_length-in-Read.result ts ts m m c.read.result c.of_length-in-Read.ensures (kept_self c.read.result ts) (kept_self c.read.result m); promised = goes_on K laws y y _ _ step }

@@ -3,5 +3,5 @@ use Rattle.scripts.specs.Keywords.{whats}
 use Rattle.scripts.proofs.Names.{unnamed}
 use Rattle.scripts.proofs.keywords.what_of.Goals as goal
 
-pub returns-in-default·44 : goal.returns-in-default·44
-returns-in-default·44 c = unnamed whats c.args.token.now (search rules)
+pub returns-in_default-44 : goal.returns-in_default-44
+returns-in_default-44 c = unnamed whats c.args.token.now (search rules)

@@ -3,4 +3,4 @@ use Rattle.scripts.proofs.Cuts.{blank_more}
 use Rattle.scripts.proofs.tokens.blanks.Goals as goal
 
 pub loop-i-preserved : goal.loop-i-preserved
-loop-i-preserved c = sym (blank_more c.args.line.now c.loop-i.i (omega arith) (sym c.if-not-is-blank.ensures)) ∙ c.loop-i.invariant
+loop-i-preserved c = sym (blank_more c.args.line.now c.loop-i.i (omega arith) (sym c.if-not-is_blank.ensures)) ∙ c.loop-i.invariant

@@ -8,40 +8,40 @@ use Rattle.scripts.proofs.Lines.{nothing_asked, nothing_left, unknown_asked, unk
 use Rattle.scripts.proofs.Ranges.{in_range}
 use Rattle.scripts.proofs.understand.understand.Goals as goal
 
-pub returns-then-is-empty : goal.returns-then-is-empty
-returns-then-is-empty c =
-    let s : tokens c.args.line.now ≡ [] = none_left c.args.line.now c.next-first.result.now c.next-first.ensures.value c.if-is-empty.ensures in
+pub returns-then-is_empty : goal.returns-then-is_empty
+returns-then-is_empty c =
+    let s : tokens c.args.line.now ≡ [] = none_left c.args.line.now c.next-first.result.now c.next-first.ensures.value c.if-is_empty.ensures in
     let a = nothing_asked (tokens c.args.line.now) s in
     record { answer = a; words = nothing_left (tokens c.args.line.now) s c.args.words.now; range = in_range _ (tokens c.args.line.now) a; law = printed_back }
 
-pub returns-in-default : goal.returns-in-default
-returns-in-default c =
+pub returns-in_default : goal.returns-in_default
+returns-in_default c =
     let s : tokens c.args.line.now ≡ c.next-first.result.now ∷ left c.next-first.new.self =
-    some_left (tokens c.args.line.now) c.next-first.result.now (left c.next-first.new.self) c.next-first.ensures.value c.next-first.ensures.after c.if-is-empty.ensures in
-    let a = unknown_asked (tokens c.args.line.now) c.next-first.result.now (left c.next-first.new.self) s c.in-default.ensures in
-    record { answer = a; words = unknown_left (tokens c.args.line.now) c.next-first.result.now (left c.next-first.new.self) s c.in-default.ensures c.args.words.now; range = in_range _ (tokens c.args.line.now) a; law = printed_back }
+    some_left (tokens c.args.line.now) c.next-first.result.now (left c.next-first.new.self) c.next-first.ensures.value c.next-first.ensures.after c.if-is_empty.ensures in
+    let a = unknown_asked (tokens c.args.line.now) c.next-first.result.now (left c.next-first.new.self) s c.in_default.ensures in
+    record { answer = a; words = unknown_left (tokens c.args.line.now) c.next-first.result.now (left c.next-first.new.self) s c.in_default.ensures c.args.words.now; range = in_range _ (tokens c.args.line.now) a; law = printed_back }
 
-pub returns-in-err-command : goal.returns-in-err-command
-returns-in-err-command c =
+pub returns-in_err-command : goal.returns-in_err-command
+returns-in_err-command c =
     let s : tokens c.args.line.now ≡ c.next-first.result.now ∷ left c.next-first.new.self =
-    some_left (tokens c.args.line.now) c.next-first.result.now (left c.next-first.new.self) c.next-first.ensures.value c.next-first.ensures.after c.if-is-empty.ensures in
-    let p = err_from_is_err_and c.from-residual.result c.from-residual.ensures.1 in
-    let a : c.from-residual.result ≡ understood (tokens c.args.line.now) = rw (p.1, p.2) (wrong_asked (tokens c.args.line.now) c.next-first.result.now (left c.next-first.new.self) s c.in-Some.verb c.in-Some.ensures c.in-err-command.field-0.0 c.in-err-command.ensures.answer) in
-    record { answer = a; words = known_left (tokens c.args.line.now) c.next-first.result.now (left c.next-first.new.self) s c.in-Some.verb c.in-Some.ensures c.args.words.now c.asked.new.words c.in-err-command.ensures.words; range = in_range _ (tokens c.args.line.now) a; law = printed_back }
+    some_left (tokens c.args.line.now) c.next-first.result.now (left c.next-first.new.self) c.next-first.ensures.value c.next-first.ensures.after c.if-is_empty.ensures in
+    let p = err_from_is_err_and c.from_residual.result c.from_residual.ensures.1 in
+    let a : c.from_residual.result ≡ understood (tokens c.args.line.now) = rw (p.1, p.2) (wrong_asked (tokens c.args.line.now) c.next-first.result.now (left c.next-first.new.self) s c.in-Some.verb c.in-Some.ensures c.in_err-command.field-0.0 c.in_err-command.ensures.answer) in
+    record { answer = a; words = known_left (tokens c.args.line.now) c.next-first.result.now (left c.next-first.new.self) s c.in-Some.verb c.in-Some.ensures c.args.words.now c.asked.new.words c.in_err-command.ensures.words; range = in_range _ (tokens c.args.line.now) a; law = printed_back }
 
-pub returns-then-is-empty-2 : goal.returns-then-is-empty-2
-returns-then-is-empty-2 c =
+pub returns-then-is_empty-2 : goal.returns-then-is_empty-2
+returns-then-is_empty-2 c =
     let s : tokens c.args.line.now ≡ c.next-first.result.now ∷ left c.next-first.new.self =
-    some_left (tokens c.args.line.now) c.next-first.result.now (left c.next-first.new.self) c.next-first.ensures.value c.next-first.ensures.after c.if-is-empty.ensures in
-    let z : left c.asked.new.tokens ≡ [] = none_left c.asked.new.tokens.line.now c.next.result.now c.next.ensures.value c.if-is-empty-2.ensures in
-    let a = well_asked (tokens c.args.line.now) c.next-first.result.now (left c.next-first.new.self) s c.in-Some.verb c.in-Some.ensures c.in-ok-command.command (left c.asked.new.tokens) c.in-ok-command.ensures.answer z in
-    record { answer = a; words = known_left (tokens c.args.line.now) c.next-first.result.now (left c.next-first.new.self) s c.in-Some.verb c.in-Some.ensures c.args.words.now c.asked.new.words c.in-ok-command.ensures.words; range = in_range _ (tokens c.args.line.now) a; law = printed_back }
+    some_left (tokens c.args.line.now) c.next-first.result.now (left c.next-first.new.self) c.next-first.ensures.value c.next-first.ensures.after c.if-is_empty.ensures in
+    let z : left c.asked.new.tokens ≡ [] = none_left c.asked.new.tokens.line.now c.next.result.now c.next.ensures.value c.if-is_empty-2.ensures in
+    let a = well_asked (tokens c.args.line.now) c.next-first.result.now (left c.next-first.new.self) s c.in-Some.verb c.in-Some.ensures c.in_ok-command.command (left c.asked.new.tokens) c.in_ok-command.ensures.answer z in
+    record { answer = a; words = known_left (tokens c.args.line.now) c.next-first.result.now (left c.next-first.new.self) s c.in-Some.verb c.in-Some.ensures c.args.words.now c.asked.new.words c.in_ok-command.ensures.words; range = in_range _ (tokens c.args.line.now) a; law = printed_back }
 
-pub returns-else-is-empty-2 : goal.returns-else-is-empty-2
-returns-else-is-empty-2 c =
+pub returns-else-is_empty-2 : goal.returns-else-is_empty-2
+returns-else-is_empty-2 c =
     let s : tokens c.args.line.now ≡ c.next-first.result.now ∷ left c.next-first.new.self =
-    some_left (tokens c.args.line.now) c.next-first.result.now (left c.next-first.new.self) c.next-first.ensures.value c.next-first.ensures.after c.if-is-empty.ensures in
+    some_left (tokens c.args.line.now) c.next-first.result.now (left c.next-first.new.self) c.next-first.ensures.value c.next-first.ensures.after c.if-is_empty.ensures in
     let z : left c.asked.new.tokens ≡ c.next.result.now ∷ left c.next.new.self =
-    some_left (left c.asked.new.tokens) c.next.result.now (left c.next.new.self) c.next.ensures.value c.next.ensures.after c.if-is-empty-2.ensures in
-    let a = more_asked (tokens c.args.line.now) c.next-first.result.now (left c.next-first.new.self) s c.in-Some.verb c.in-Some.ensures c.in-ok-command.command (left c.asked.new.tokens) c.in-ok-command.ensures.answer c.next.result.now (left c.next.new.self) z in
-    record { answer = a; words = known_left (tokens c.args.line.now) c.next-first.result.now (left c.next-first.new.self) s c.in-Some.verb c.in-Some.ensures c.args.words.now c.asked.new.words c.in-ok-command.ensures.words; range = in_range _ (tokens c.args.line.now) a; law = printed_back }
+    some_left (left c.asked.new.tokens) c.next.result.now (left c.next.new.self) c.next.ensures.value c.next.ensures.after c.if-is_empty-2.ensures in
+    let a = more_asked (tokens c.args.line.now) c.next-first.result.now (left c.next-first.new.self) s c.in-Some.verb c.in-Some.ensures c.in_ok-command.command (left c.asked.new.tokens) c.in_ok-command.ensures.answer c.next.result.now (left c.next.new.self) z in
+    record { answer = a; words = known_left (tokens c.args.line.now) c.next-first.result.now (left c.next-first.new.self) s c.in-Some.verb c.in-Some.ensures c.args.words.now c.asked.new.words c.in_ok-command.ensures.words; range = in_range _ (tokens c.args.line.now) a; law = printed_back }

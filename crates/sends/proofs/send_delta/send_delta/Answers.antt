@@ -12,45 +12,45 @@ use Rattle.sends.proofs.Deltas.{table_kept, table_changed, stored, low, delta_of
 use Rattle.sends.proofs.Ways.{turned, made, posting_refused, posting_done, packed_answer, packed_leaves, put_done, put_waits, no_err}
 use Rattle.sends.proofs.send_delta.send_delta.Goals as goal
 
-pub returns-in-err-find : goal.returns-in-err-find
-returns-in-err-find g c =
+pub returns-in_err-find : goal.returns-in_err-find
+returns-in_err-find g c =
     let K = g.C.Crdt in
     let takes = g.M.Mailbox.takes c.args.mailbox.now in
     let ts = c.args.stations.now in
     let s = c.args.s in
     let ws = c.args.words.now in
-    let p = err_from_is_err_and c.from-residual.result c.from-residual.ensures.1 in
-    let no_one = refused_found (found K (map (station_of K) ts) s) _ c.in-err-find.ensures.answer in
+    let p = err_from_is_err_and c.from_residual.result c.from_residual.ensures.1 in
+    let no_one = refused_found (found K (map (station_of K) ts) s) _ c.in_err-find.ensures.answer in
     let what = ap (sending_delta K takes s (length ws)) no_one in
     let is = p.1 ∙ ap Err p.2 in
-    let t = turned g.M.Mailbox.waiting _ c.from-residual.result _ c.args.mailbox.now ws is what in
-    let u = table_kept (station_of K) s _ ts c.from-residual.result ts _ _ is what refl in
+    let t = turned g.M.Mailbox.waiting _ c.from_residual.result _ c.args.mailbox.now ws is what in
+    let u = table_kept (station_of K) s _ ts c.from_residual.result ts _ _ is what refl in
     record { answer = t.answer; stations = u.stations; others = u.others; mailbox = t.mailbox; refused = (u.refused, t.refused); words = t.words }
 
-pub returns-in-default : goal.returns-in-default
-returns-in-default g c =
+pub returns-in_default : goal.returns-in_default
+returns-in_default g c =
     let K = g.C.Crdt in
     let takes = g.M.Mailbox.takes c.args.mailbox.now in
     let ts = c.args.stations.now in
     let s = c.args.s in
     let ws = c.args.words.now in
     let e = c.index-stations-s.result in
-    let here = c.in-ok-find.ensures.here in
+    let here = c.in_ok-find.ensures.here in
     let enough = c.if-words-lt-MOST.false in
-    let what = delta_nothing K ts s e here takes (length ws) enough (sym c.in-default.ensures.some) in
+    let what = delta_nothing K ts s e here takes (length ws) enough (sym c.in_default.ensures.some) in
     let t = turned g.M.Mailbox.waiting _ (Err why.Nothing) why.Nothing c.args.mailbox.now ws refl what in
     let u = table_kept (station_of K) s _ ts (Err why.Nothing) _ _ why.Nothing refl what (set-get_or ts s e) in
     record { answer = t.answer; stations = u.stations; others = u.others; mailbox = t.mailbox; refused = (u.refused, t.refused); words = t.words }
 
-pub returns-in-err-admit : goal.returns-in-err-admit
-returns-in-err-admit g c =
+pub returns-in_err-admit : goal.returns-in_err-admit
+returns-in_err-admit g c =
     let K = g.C.Crdt in
     let takes = g.M.Mailbox.takes c.args.mailbox.now in
     let ts = c.args.stations.now in
     let s = c.args.s in
     let ws = c.args.words.now in
     let e = c.index-stations-s.result in
-    let here = c.in-ok-find.ensures.here in
+    let here = c.in_ok-find.ensures.here in
     let enough = c.if-words-lt-MOST.false in
     let from = c.in-Some.span.from in
     let to = c.in-Some.span.to in
@@ -59,22 +59,22 @@ returns-in-err-admit g c =
     let after = emptied K s (station_of K (stored K ts s e here takes (length ws))) in
     let size = delta_size K ts s e here takes (length ws) from to c.size-size.result c.size-size.ensures in
     let sends = delta_what K ts s e here takes (length ws) enough from to ends.0 ends.1 c.in-Some.span.rises.0 in
-    let p = err_from_is_err_and c.from-residual-in-err-admit.result c.from-residual-in-err-admit.ensures.1 in
-    let what = sends ∙ posting_refused K m takes after _ size _ c.in-err-admit.ensures in
+    let p = err_from_is_err_and c.from_residual-in_err-admit.result c.from_residual-in_err-admit.ensures.1 in
+    let what = sends ∙ posting_refused K m takes after _ size _ c.in_err-admit.ensures in
     let is = p.1 ∙ ap Err p.2 in
-    let t = turned g.M.Mailbox.waiting _ c.from-residual-in-err-admit.result _ c.args.mailbox.now ws is what in
-    let u = table_kept (station_of K) s _ ts c.from-residual-in-err-admit.result _ _ _ is what (set-get_or ts s e) in
+    let t = turned g.M.Mailbox.waiting _ c.from_residual-in_err-admit.result _ c.args.mailbox.now ws is what in
+    let u = table_kept (station_of K) s _ ts c.from_residual-in_err-admit.result _ _ _ is what (set-get_or ts s e) in
     record { answer = t.answer; stations = u.stations; others = u.others; mailbox = t.mailbox; refused = (u.refused, t.refused); words = t.words }
 
-pub returns-in-err-n : goal.returns-in-err-n
-returns-in-err-n g c =
+pub returns-in_err-n : goal.returns-in_err-n
+returns-in_err-n g c =
     let K = g.C.Crdt in
     let takes = g.M.Mailbox.takes c.args.mailbox.now in
     let ts = c.args.stations.now in
     let s = c.args.s in
     let ws = c.args.words.now in
     let e = c.index-stations-s.result in
-    let here = c.in-ok-find.ensures.here in
+    let here = c.in_ok-find.ensures.here in
     let enough = c.if-words-lt-MOST.false in
     let from = c.in-Some.span.from in
     let to = c.in-Some.span.to in
@@ -83,19 +83,19 @@ returns-in-err-n g c =
     let after = emptied K s (station_of K (stored K ts s e here takes (length ws))) in
     let size = delta_size K ts s e here takes (length ws) from to c.size-size.result c.size-size.ensures in
     let sends = delta_what K ts s e here takes (length ws) enough from to ends.0 ends.1 c.in-Some.span.rises.0 in
-    let fit = posting_done K m takes after _ size _ c.in-ok-admit.ensures in
+    let fit = posting_done K m takes after _ size _ c.in_ok-admit.ensures in
     let near = low K ts s e here takes (length ws) in
-    absurd (no_err _ _ _ _ c.in-err-n.was c.pack-delta.ensures.answer (packed_answer K m ws near fit.2 enough))
+    absurd (no_err _ _ _ _ c.in_err-n.was c.pack_delta.ensures.answer (packed_answer K m ws near fit.2 enough))
 
-pub returns-in-err-put : goal.returns-in-err-put
-returns-in-err-put g c =
+pub returns-in_err-put : goal.returns-in_err-put
+returns-in_err-put g c =
     let K = g.C.Crdt in
     let takes = g.M.Mailbox.takes c.args.mailbox.now in
     let ts = c.args.stations.now in
     let s = c.args.s in
     let ws = c.args.words.now in
     let e = c.index-stations-s.result in
-    let here = c.in-ok-find.ensures.here in
+    let here = c.in_ok-find.ensures.here in
     let enough = c.if-words-lt-MOST.false in
     let from = c.in-Some.span.from in
     let to = c.in-Some.span.to in
@@ -104,13 +104,13 @@ returns-in-err-put g c =
     let after = emptied K s (station_of K (stored K ts s e here takes (length ws))) in
     let size = delta_size K ts s e here takes (length ws) from to c.size-size.result c.size-size.ensures in
     let sends = delta_what K ts s e here takes (length ws) enough from to ends.0 ends.1 c.in-Some.span.rises.0 in
-    let fit = posting_done K m takes after _ size _ c.in-ok-admit.ensures in
+    let fit = posting_done K m takes after _ size _ c.in_ok-admit.ensures in
     let near = low K ts s e here takes (length ws) in
-    let us = c.pack-delta.new.words in
-    let left = c.pack-delta.ensures.words in
-    let n = c.in-ok-n.n in
-    let n-is = answered n (length (packed K m)) (c.in-ok-n.ensures.answer ∙ packed_answer K m ws near fit.2 enough) in
-    absurd (no_err _ _ _ _ c.in-err-put.was c.put.ensures.answer (put_done K m ws near fit.2 enough us n left n-is takes fit.3))
+    let us = c.pack_delta.new.words in
+    let left = c.pack_delta.ensures.words in
+    let n = c.in_ok-n.n in
+    let n-is = answered n (length (packed K m)) (c.in_ok-n.ensures.answer ∙ packed_answer K m ws near fit.2 enough) in
+    absurd (no_err _ _ _ _ c.in_err-put.was c.put.ensures.answer (put_done K m ws near fit.2 enough us n left n-is takes fit.3))
 
 pub returns : goal.returns
 returns g c =
@@ -120,7 +120,7 @@ returns g c =
     let s = c.args.s in
     let ws = c.args.words.now in
     let e = c.index-stations-s.result in
-    let here = c.in-ok-find.ensures.here in
+    let here = c.in_ok-find.ensures.here in
     let enough = c.if-words-lt-MOST.false in
     let from = c.in-Some.span.from in
     let to = c.in-Some.span.to in
@@ -129,12 +129,12 @@ returns g c =
     let after = emptied K s (station_of K (stored K ts s e here takes (length ws))) in
     let size = delta_size K ts s e here takes (length ws) from to c.size-size.result c.size-size.ensures in
     let sends = delta_what K ts s e here takes (length ws) enough from to ends.0 ends.1 c.in-Some.span.rises.0 in
-    let fit = posting_done K m takes after _ size _ c.in-ok-admit.ensures in
+    let fit = posting_done K m takes after _ size _ c.in_ok-admit.ensures in
     let near = low K ts s e here takes (length ws) in
-    let us = c.pack-delta.new.words in
-    let left = c.pack-delta.ensures.words in
-    let n = c.in-ok-n.n in
-    let n-is = answered n (length (packed K m)) (c.in-ok-n.ensures.answer ∙ packed_answer K m ws near fit.2 enough) in
+    let us = c.pack_delta.new.words in
+    let left = c.pack_delta.ensures.words in
+    let n = c.in_ok-n.n in
+    let n-is = answered n (length (packed K m)) (c.in_ok-n.ensures.answer ∙ packed_answer K m ws near fit.2 enough) in
     let more = c.put.ensures.after ∙ put_waits K m ws near fit.2 enough us n left n-is takes fit.3 (g.M.Mailbox.waiting c.args.mailbox.now) in
     let what = sends ∙ fit.0 in
     let t = made g.M.Mailbox.waiting _ n (packed K m) after c.args.mailbox.now c.put.new.self ws us what n-is more (left ∙ packed_leaves K m ws near fit.2 enough) in

@@ -19,7 +19,7 @@ returns g c =
     let all = fresh_all g.C.Crdt c.loop-i.stations 0 (λ k d h. c.loop-i.invariant k d (omega arith) ∙ ap (fresh g.C.Crdt) (omega arith)) ∙ ap (all_fresh g.C.Crdt 0) c.loop-i.auto.stations in
     let laws : Laws g.C.Crdt = record { assoc = k.assoc; comm = k.comm; idem = k.idem; neutral = k.neutral; wire = both_ways g.C.Crdt k.reads k.exact } in
     record {
-      answer = sym (cond-false _ _ _ (sym c.if-is-empty.ensures) ∙ cond-false _ _ _ (le-ltb 16 n c.if-stations-gt-MOST.false));
+      answer = sym (cond-false _ _ _ (sym c.if-is_empty.ensures) ∙ cond-false _ _ _ (le-ltb 16 n c.if-stations-gt-MOST.false));
       fresh = all;
       promised = begins g.C.Crdt laws _ n c.if-stations-gt-MOST.false all;
       refused = tt;

@@ -2,8 +2,8 @@ use Rattle.std.proofs.Common.{arith}
 use Rattle.word_mailbox.proofs.Holds.{at}
 use Rattle.word_mailbox.proofs.WordMailbox.find.Goals as goal
 
-pub offset-bounds-self-place : goal.offset-bounds-self-place
-offset-bounds-self-place c =
+pub offset_bounds-self-place : goal.offset_bounds-self-place
+offset_bounds-self-place c =
     let t = c.args.self.now in
     let s = at t c.args.k (omega arith) c.place-place.result c.place-place.ensures in
     omega (arith, s.within, t.ok.1)

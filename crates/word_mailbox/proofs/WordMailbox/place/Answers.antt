@@ -2,8 +2,8 @@ use Rattle.std.proofs.Common.{arith}
 use Rattle.word_mailbox.proofs.Holds.{at}
 use Rattle.word_mailbox.proofs.WordMailbox.place.Goals as goal
 
-pub offset-bounds-self-place : goal.offset-bounds-self-place
-offset-bounds-self-place c =
+pub offset_bounds-self-place : goal.offset_bounds-self-place
+offset_bounds-self-place c =
     let t = c.args.self.now in
     let s = at t c.loop-i.-i (omega arith) c.loop-i.place c.loop-i.invariant in
     omega (arith, s.within, t.ok.1)
@@ -14,8 +14,8 @@ bounds-self-place c =
     let s = at t c.loop-i.-i (omega arith) c.loop-i.place c.loop-i.invariant in
     omega (arith, s.within, t.ok.0)
 
-pub overflow-add-place-in-loop-i : goal.overflow-add-place-in-loop-i
-overflow-add-place-in-loop-i c =
+pub overflow_add-place-in-loop-i : goal.overflow_add-place-in-loop-i
+overflow_add-place-in-loop-i c =
     let t = c.args.self.now in
     let s = at t c.loop-i.-i (omega arith) c.loop-i.place c.loop-i.invariant in
     omega (arith, s.within, s.size, t.ok.1)

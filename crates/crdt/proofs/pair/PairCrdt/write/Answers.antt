@@ -11,8 +11,8 @@ returns-then-all-gt-MOST g c =
     let long : 127 < length (a ++ b) = omega arith in
     record { answer = sym (answer_long _ _ _ long); words = sym (leaves_long _ _ _ long) }
 
-pub returns-then-saturating-sub-all : goal.returns-then-saturating-sub-all
-returns-then-saturating-sub-all g c =
+pub returns-then-saturating_sub-all : goal.returns-then-saturating_sub-all
+returns-then-saturating_sub-all g c =
     let a = g.L.Crdt.written (g.L.Crdt.value c.args.self.now.left) in
     let b = g.R.Crdt.written (g.R.Crdt.value c.args.self.now.right) in
     let all = length-append a b in
@@ -30,10 +30,10 @@ returns g c =
     let all = length-append a b in
     let few : length a + length b ≤ 127 = omega arith in
     let room : length a + length b ≤ length old - at = omega arith in
-    let next : c.in-ok-next.next ≡ at + length a = (let e = c.in-ok-next.ensures.answer ∙ answer_fits (length old) at (length a) (omega arith) (omega arith) in cc) in
+    let next : c.in_ok-next.next ≡ at + length a = (let e = c.in_ok-next.ensures.answer ∙ answer_fits (length old) at (length a) (omega arith) (omega arith) in cc) in
     let mid-is : mid ≡ write_leaves old at a = c.write.ensures.words in
     let long : length mid ≡ length old = ap length mid-is ∙ length_leaves old at a (omega arith) (omega arith) in
     record {
       answer = c.write-2.ensures.answer ∙ answer_fits _ _ (length b) (omega arith) (omega arith) ∙ ap Ok (omega arith) ∙ sym (answer_fits (length old) at (length (a ++ b)) (omega arith) (omega arith));
-      words = c.write-2.ensures.words ∙ ap (λ ws. write_leaves ws c.in-ok-next.next b) mid-is ∙ ap (λ n. write_leaves (write_leaves old at a) n b) next ∙ leaves_both old at a b few room;
+      words = c.write-2.ensures.words ∙ ap (λ ws. write_leaves ws c.in_ok-next.next b) mid-is ∙ ap (λ n. write_leaves (write_leaves old at a) n b) next ∙ leaves_both old at a b few room;
     }

@@ -15,8 +15,8 @@ close-requires c =
     let t = c.args.self.now in
     record { pages = refl; held = refl; below = c.if-k-self.false; room = omega (arith, room t, held_few t) }
 
-pub invariant-of-self-2 : goal.invariant-of-self-2
-invariant-of-self-2 c = (close_ok c.args.self.now c.args.k c.close.new.self.bytes.now c.if-k-self.false c.close.ensures.memory, tt)
+pub invariant_of-self-2 : goal.invariant_of-self-2
+invariant_of-self-2 c = (close_ok c.args.self.now c.args.k c.close.new.self.bytes.now c.if-k-self.false c.close.ensures.memory, tt)
 
 pub returns : goal.returns
 returns c =

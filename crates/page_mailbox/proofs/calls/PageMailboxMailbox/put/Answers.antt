@@ -8,8 +8,8 @@ use Rattle.page_mailbox.proofs.Holds.{room, takes_room, put_ok, put_waiting, put
 use Rattle.page_mailbox.proofs.calls.PageMailboxMailbox.put.Goals as goal
 use Rattle.page_mailbox.proofs.calls.PageMailboxMailbox.put.Goals.{After-write}
 
-pub overflow-mul-held : goal.overflow-mul-held
-overflow-mul-held c =
+pub overflow_mul-held : goal.overflow_mul-held
+overflow_mul-held c =
     let t = c.args.self.now in
     omega (arith, room t, takes_room t (length c.args.message.now) (sym c.if-not-fits.ensures))
 
@@ -18,8 +18,8 @@ write-requires c =
     let t = c.args.self.now in
     record { pages = refl; held = refl; room = omega (arith, room t, takes_room t (length c.args.message.now) (sym c.if-not-fits.ensures)) }
 
-pub overflow-add-self : goal.overflow-add-self
-overflow-add-self c =
+pub overflow_add-self : goal.overflow_add-self
+overflow_add-self c =
     let t = c.args.self.now in
     omega (arith, room t, takes_room t (length c.args.message.now) (sym c.if-not-fits.ensures))
 
@@ -27,8 +27,8 @@ overflow-add-self c =
 written : (c : goal.After-write) → c.write.new.self.bytes.now ≡ put (memory_of c.args.self.now) (512 * c.args.self.now.held) (page_of c.args.message.now)
 written c = c.write.ensures.memory ∙ ap (put (memory_of c.args.self.now) (512 * c.args.self.now.held)) c.pack-page.ensures
 
-pub invariant-of-self-2 : goal.invariant-of-self-2
-invariant-of-self-2 c =
+pub invariant_of-self-2 : goal.invariant_of-self-2
+invariant_of-self-2 c =
     (put_ok c.args.self.now c.args.message.now c.write.new.self.bytes.now (omega arith) (omega arith) (λ i. omega (arith, c.type-inv.message i)) (sym c.if-not-fits.ensures) (written c), tt)
 
 pub returns : goal.returns

@@ -15,14 +15,14 @@ returns-then-k-self c =
     let r = read_past (waiting_of t) c.args.k c.args.words.now c.if-words-lt127.false (omega (arith, held_is t, c.if-k-self.true)) in
     record { answer = r.0; words = r.1 }
 
-pub overflow-mul-place : goal.overflow-mul-place
-overflow-mul-place c = omega (arith, room c.args.self.now, held_few c.args.self.now)
+pub overflow_mul-place : goal.overflow_mul-place
+overflow_mul-place c = omega (arith, room c.args.self.now, held_few c.args.self.now)
 
-pub overflow-add-place : goal.overflow-add-place
-overflow-add-place c = omega (arith, room c.args.self.now, held_few c.args.self.now)
+pub overflow_add-place : goal.overflow_add-place
+overflow_add-place c = omega (arith, room c.args.self.now, held_few c.args.self.now)
 
-pub slice-bounds-unpack-end : goal.slice-bounds-unpack-end
-slice-bounds-unpack-end c = omega (arith, room c.args.self.now, held_few c.args.self.now)
+pub slice_bounds-unpack-end : goal.slice_bounds-unpack-end
+slice_bounds-unpack-end c = omega (arith, room c.args.self.now, held_few c.args.self.now)
 
 pub unpack-n-requires : goal.unpack-n-requires
 unpack-n-requires c =

@@ -5,8 +5,8 @@ use Rattle.registers.proofs.gset.GSet.len.Goals as goal
 pub loop-stored-init : goal.loop-stored-init
 loop-stored-init c = counting_start c.args.self.now.bits
 
-pub overflow-add-n : goal.overflow-add-n
-overflow-add-n c =
+pub overflow_add-n : goal.overflow_add-n
+overflow_add-n c =
     let next = counting_step _ _ _ c.loop-stored.invariant c.loop-stored-test.true in
     let few = next.few in
     omega arith

@@ -15,8 +15,8 @@ returns-then-k-self c =
     let r = discard_past (waiting_of t) c.args.k (omega (arith, held_is t, c.if-k-self.true)) in
     record { answer = r.0; after = r.1; refused = refl; memory = discard_none c.args.k (waiting_of t) (memory_of t) (omega (arith, held_is t, c.if-k-self.true)); lender = refl }
 
-pub invariant-of-self : goal.invariant-of-self
-invariant-of-self c =
+pub invariant_of-self : goal.invariant_of-self
+invariant_of-self c =
     (front_sound c.args.self.now c.args.k c.if-k-self.false c.find-place.result.0 c.find-place.result.1 c.find-place.ensures.place c.find-place.ensures.size, tt)
 
 pub loop-i-init : goal.loop-i-init
@@ -27,8 +27,8 @@ loop-i-init c =
     let z : 0 ≡ from - from = omega arith in
     (paste_none ws p (drop from ws) ∙ ap (paste ws p (drop from ws)) z, refl, refl, refl)
 
-pub invariant-of-self-in-loop-i : goal.invariant-of-self-in-loop-i
-invariant-of-self-in-loop-i c =
+pub invariant_of-self-in-loop-i : goal.invariant_of-self-in-loop-i
+invariant_of-self-in-loop-i c =
     let t = c.loop-i.self in
     let i = c.find-place.result.0 + (c.loop-i.i - (c.find-place.result.0 + 1 + c.find-place.result.1)) in
     ((simp length-set t.ok.0, t.ok.1, sound_set t.held t.used i _ t.words.now (omega (arith, c.loop-i.invariant.1)) t.ok.2), tt)
@@ -47,8 +47,8 @@ moved c =
     let from = p + 1 + c.find-place.result.1 in
     paste_to c.loop-i.self.words.now t.words.now p (drop from t.words.now) (c.loop-i.i - from) (t.used - from) c.loop-i.invariant.0 (omega (arith, c.loop-i.auto.i-end c.find-place.ensures.within))
 
-pub invariant-of-self-2 : goal.invariant-of-self-2
-invariant-of-self-2 c =
+pub invariant_of-self-2 : goal.invariant_of-self-2
+invariant_of-self-2 c =
     (close_sound c.args.self.now c.args.k c.if-k-self.false c.find-place.result.0 c.find-place.result.1 c.find-place.ensures.place c.find-place.ensures.size c.loop-i.self.words.now (moved c), tt)
 
 pub returns : goal.returns

@@ -10,8 +10,8 @@ use Rattle.word_mailbox.proofs.Holds.{held_few, takes_room, part_long, put_waiti
 use Rattle.word_mailbox.proofs.calls.WordMailboxMailbox.put.Goals as goal
 use Rattle.word_mailbox.proofs.calls.WordMailboxMailbox.put.Goals.{After-loop-i}
 
-pub invariant-of-self : goal.invariant-of-self
-invariant-of-self c =
+pub invariant_of-self : goal.invariant_of-self
+invariant_of-self c =
     let t = c.args.self.now in
     ((simp length-set t.ok.0, t.ok.1, sound_set t.held t.used t.used _ t.words.now (omega arith) t.ok.2), tt)
 
@@ -21,8 +21,8 @@ loop-i-init c =
     let m = c.args.message.now in
     (paste_none (set t.words.now t.used c.new-head.result.0) (t.used + 1) m, refl, refl, refl)
 
-pub invariant-of-self-in-loop-i : goal.invariant-of-self-in-loop-i
-invariant-of-self-in-loop-i c =
+pub invariant_of-self-in-loop-i : goal.invariant_of-self-in-loop-i
+invariant_of-self-in-loop-i c =
     let t = c.loop-i.self in
     ((simp length-set t.ok.0, t.ok.1, sound_set t.held t.used (c.args.self.now.used + 1 + c.loop-i.i) _ t.words.now (omega (arith, c.loop-i.invariant.1)) t.ok.2), tt)
 
@@ -35,8 +35,8 @@ loop-i-preserved c =
     let l : t.used + 1 + c.loop-i.i < length w = simp length-set (omega (arith, r.1)) in
     (ap (λ x. set x (t.used + 1 + c.loop-i.i) (get_or m c.loop-i.i 0)) c.loop-i.invariant.0 ∙ paste_more w (t.used + 1) m c.loop-i.i 0 l c.loop-i-test.true, c.loop-i.invariant.1, c.loop-i.invariant.2, c.loop-i.invariant.3)
 
-pub overflow-add-self-4 : goal.overflow-add-self-4
-overflow-add-self-4 c = omega (arith, held_few c.args.self.now, c.loop-i.invariant.2)
+pub overflow_add-self-4 : goal.overflow_add-self-4
+overflow_add-self-4 c = omega (arith, held_few c.args.self.now, c.loop-i.invariant.2)
 
 pub bounds-self-used : goal.bounds-self-used
 bounds-self-used c =
@@ -60,8 +60,8 @@ written c =
     let done : c.loop-i.i ≡ length m = omega arith in
     c.loop-i.invariant.0 ∙ ap (paste (set t.words.now t.used c.new-head.result.0) (t.used + 1) m) done ∙ ap (λ x. paste (set t.words.now t.used x) (t.used + 1) m (length m)) c.new-head.ensures
 
-pub invariant-of-self-2 : goal.invariant-of-self-2
-invariant-of-self-2 c =
+pub invariant_of-self-2 : goal.invariant_of-self-2
+invariant_of-self-2 c =
     let t = c.args.self.now in
     let m = c.args.message.now in
     let new = c.loop-i.self.words.now in

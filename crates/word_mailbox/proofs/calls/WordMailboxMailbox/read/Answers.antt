@@ -22,7 +22,7 @@ returns c =
     let s = c.find-place.result.1 in
     let w = words_at t.words.now t.used t.held t.ok.0 t.ok.2 c.args.k c.if-k-self.false p s c.find-place.ensures.place c.find-place.ensures.size in
     let e : (p + 1 + s) - (p + 1) ≡ s = omega arith in
-    let g = c.copy-from-slice.ensures.after ∙ ap (λ x. take x (drop (p + 1) t.words.now)) e ∙ w in
+    let g = c.copy_from_slice.ensures.after ∙ ap (λ x. take x (drop (p + 1) t.words.now)) e ∙ w in
     let j : s - 0 ≡ length (get_or ms c.args.k []) = omega (arith, c.find-place.ensures.size) in
     let r = read_there ms c.args.k c.args.words.now c.if-words-lt127.false s _ h c.find-place.ensures.size (copied _ (get_or ms c.args.k []) c.args.words.now (s - 0) g j) in
     record { answer = r.0; words = r.1 }
