@@ -7,10 +7,24 @@ use Rattle.words.specs.declared.reader.Reader.{Reader}
 use Rattle.words.specs.Readings.{Reading, read, wrong, read_or, rest, told, left, before, fault_at, load_answer}
 use Rattle.words.proofs.Walks.{refused_least}
 use Rattle.words.proofs.Resumes.{left_before, before_before}
-use Rattle.crdt.specs.Pairs.{beside, then_right}
+use Rattle.crdt.specs.Pairs.{each, beside, then_right}
 
 pair_same : {V W : Type 0} {a c : V} {b d : W} → a ≡ c → b ≡ d → ◌≡◌ {A = V × W} (a, b) (c, d)
 pair_same e f = λ i. (e i, f i)
+
+-- what is joined side by side keeps the laws of its sides
+module _ {V W : Type 0} (f : V → V → V) (g : W → W → W) where
+  pub pair_assoc : ((a b c : V) → f (f a b) c ≡ f a (f b c)) → ((a b c : W) → g (g a b) c ≡ g a (g b c)) → (p q r : V × W) → each f g (each f g p q) r ≡ each f g p (each f g q r)
+  pair_assoc left right p q r = pair_same (left p.0 q.0 r.0) (right p.1 q.1 r.1)
+
+  pub pair_comm : ((a b : V) → f a b ≡ f b a) → ((a b : W) → g a b ≡ g b a) → (p q : V × W) → each f g p q ≡ each f g q p
+  pair_comm left right p q = pair_same (left p.0 q.0) (right p.1 q.1)
+
+  pub pair_idem : ((a : V) → f a a ≡ a) → ((a : W) → g a a ≡ a) → (p : V × W) → each f g p p ≡ p
+  pair_idem left right p = pair_same (left p.0) (right p.1)
+
+  pub pair_neutral : {v : V} {w : W} → ((a : V) → f a v ≡ a) → ((a : W) → g a w ≡ a) → (p : V × W) → each f g p (v, w) ≡ p
+  pair_neutral left right p = pair_same (left p.0) (right p.1)
 
 -- a load that is answered has read a value
 pub answered : {X : Type 0} (start : Reader) (x : Reading X) (p : ℕ) → Ok p ≡ load_answer start x → (v : X) × (x ≡ read v (rest x))

@@ -1,7 +1,6 @@
 // A pair of any two kinds, side by side.
 ghost use Rattle.crdt.specs.Pairs.{each, side_reported, side_written, then_right};
-ghost use Rattle.crdt.specs.Sides.{pair_reads, pair_exact};
-ghost use Rattle.std.proofs.Common.{rules};
+ghost use Rattle.crdt.specs.Sides.{pair_assoc, pair_comm, pair_idem, pair_neutral, pair_reads, pair_exact};
 
 use crate::kind::Crdt;
 use words::fault::Fault;
@@ -41,13 +40,13 @@ impl<L: Crdt, R: Crdt> Crdt for Pair<L, R> {
 
     ghost reading = { λ ws. then_right R.Crdt.reading (L.Crdt.reading ws) };
 
-    ghost assoc = { Prim.search rules };
+    ghost assoc = { pair_assoc L.Crdt.joined R.Crdt.joined L.Crdt.assoc R.Crdt.assoc };
 
-    ghost comm = { Prim.search rules };
+    ghost comm = { pair_comm L.Crdt.joined R.Crdt.joined L.Crdt.comm R.Crdt.comm };
 
-    ghost idem = { Prim.search rules };
+    ghost idem = { pair_idem L.Crdt.joined R.Crdt.joined L.Crdt.idem R.Crdt.idem };
 
-    ghost neutral = { Prim.search rules };
+    ghost neutral = { pair_neutral L.Crdt.joined R.Crdt.joined L.Crdt.neutral R.Crdt.neutral };
 
     ghost reads = { pair_reads L.Crdt.written R.Crdt.written L.Crdt.reading R.Crdt.reading L.Crdt.reads R.Crdt.reads };
 

@@ -9,7 +9,7 @@ loop-count-init c = record { so_far = refl; small = omega arith }
 
 pub overflow_add-sum-in-loop-count : goal.overflow_add-sum-in-loop-count
 overflow_add-sum-in-loop-count c =
-    let x = get_or c.args.counts.now c.loop-count.count_index 0 in
+    let x = get_or c.args.counts.now c.loop-count.count-index 0 in
     let below = mod_below x (c.top.result + 1) (omega arith) in
     let s = c.loop-count.invariant.small in
     omega arith
@@ -18,7 +18,7 @@ pub loop-count-preserved : goal.loop-count-preserved
 loop-count-preserved c =
     let top = top_of c.args.kind in
     let xs = c.args.counts.now in
-    let i = c.loop-count.count_index in
+    let i = c.loop-count.count-index in
     let is = c.top.ensures.value in
     let low : top < 2 ^ 24 = omega arith in
     let same : get_or xs i 0 % (c.top.result + 1) ≡ get_or xs i 0 % (top + 1) = ap (λ t. get_or xs i 0 % (t + 1)) is in

@@ -22,7 +22,7 @@ returns-in_err-full c =
     let turn = mount_turn n i c.loop-i.held c.loop-i.seen bs c.loop-i-test.true (512 * i + 512 - 512 * i) (omega arith) (Err (told_fault c.in_err-full.field-0.0)) c.in_err-full.ensures in
     let all = mount_sized bs (sym c.if-not-is_paged.ensures) ∙ c.loop-i.invariant.0 ∙ turn in
     let answer = ap told (p.1 ∙ ap Err p.2) ∙ sym all in
-    record { answer = answer; exact = written bs c.from_residual.result (λ i. omega (arith, c.type-inv.bytes i)) answer; law = images_accepted; foreign = foreign_answer bs (told c.from_residual.result) answer }
+    record { answer = answer; exact = written bs c.from_residual.result (λ i. omega (arith, c.type_inv.bytes i)) answer; law = images_accepted; foreign = foreign_answer bs (told c.from_residual.result) answer }
 
 pub loop-i-preserved : goal.loop-i-preserved
 loop-i-preserved c =
@@ -43,4 +43,4 @@ returns c =
     let i = c.loop-i.i in
     let z : n - i ≡ 0 = omega arith in
     let answer = sym (mount_sized bs (sym c.if-not-is_paged.ensures) ∙ c.loop-i.invariant.0 ∙ ap (λ x. mount_pages x (512 * i) c.loop-i.held c.loop-i.seen (drop (512 * i) bs)) z) in
-    record { answer = answer; exact = written bs (Ok c.loop-i.held) (λ i. omega (arith, c.type-inv.bytes i)) answer; law = images_accepted; foreign = foreign_answer bs (Ok c.loop-i.held) answer }
+    record { answer = answer; exact = written bs (Ok c.loop-i.held) (λ i. omega (arith, c.type_inv.bytes i)) answer; law = images_accepted; foreign = foreign_answer bs (Ok c.loop-i.held) answer }

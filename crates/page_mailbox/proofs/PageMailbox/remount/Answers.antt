@@ -17,7 +17,7 @@ returns c =
       pages = λ ne. let a = accepts t.pages t.held bs ne t.ok.1 t.ok.0 in m.pages ∙ ap (λ r. mounted_pages r (length bs)) a.0 ∙ a.1;
       waiting = λ ne. let a = accepts t.pages t.held bs ne t.ok.1 t.ok.0 in m.waiting ∙ ap (λ r. pages_of (value_or 0 r) bs) a.0;
       mounted_pages = m.pages;
-      mounted-waiting = m.waiting;
+      mounted_waiting = m.waiting;
       accepted = λ ne. (accepts t.pages t.held bs ne t.ok.1 t.ok.0).0 ∙ ap Ok (sym (length_pages t.held bs));
       lender = m.lender;
     }

@@ -14,7 +14,7 @@ loop-i-init c =
     (paste_none c.args.self.now.bytes.now c.args.place c.args.page.now, c.requires.pages, c.requires.held, refl)
 
 pub invariant_of-self : goal.invariant_of-self
-invariant_of-self c = (unused c.loop-i.self.pages c.loop-i.self.held _ c.loop-i.invariant.1 c.loop-i.invariant.2, tt)
+invariant_of-self c = record { ok = unused c.loop-i.self.pages c.loop-i.self.held _ c.loop-i.invariant.1 c.loop-i.invariant.2 }
 
 pub loop-i-preserved : goal.loop-i-preserved
 loop-i-preserved c =

@@ -16,7 +16,7 @@ close-requires c =
     record { pages = refl; held = refl; below = c.if-k-self.false; room = omega (arith, room t, held_few t) }
 
 pub invariant_of-self-2 : goal.invariant_of-self-2
-invariant_of-self-2 c = (close_ok c.args.self.now c.args.k c.close.new.self.bytes.now c.if-k-self.false c.close.ensures.memory, tt)
+invariant_of-self-2 c = record { ok = close_ok c.args.self.now c.args.k c.close.new.self.bytes.now c.if-k-self.false c.close.ensures.memory }
 
 pub returns : goal.returns
 returns c =

@@ -29,7 +29,7 @@ written c = c.write.ensures.memory ∙ ap (put (memory_of c.args.self.now) (512 
 
 pub invariant_of-self-2 : goal.invariant_of-self-2
 invariant_of-self-2 c =
-    (put_ok c.args.self.now c.args.message.now c.write.new.self.bytes.now (omega arith) (omega arith) (λ i. omega (arith, c.type-inv.message i)) (sym c.if-not-fits.ensures) (written c), tt)
+    record { ok = put_ok c.args.self.now c.args.message.now c.write.new.self.bytes.now (omega arith) (omega arith) (λ i. omega (arith, c.type_inv.message i)) (sym c.if-not-fits.ensures) (written c) }
 
 pub returns : goal.returns
 returns c =
@@ -38,7 +38,7 @@ returns c =
     let new = c.write.new.self.bytes.now in
     let f = sym c.if-not-fits.ensures in
     let is = written (goal.at.returns c).After-write in
-    let words : (i : ℕ) → get_or m i 0 < 2 ^ 32 = λ i. omega (arith, c.type-inv.message i) in
+    let words : (i : ℕ) → get_or m i 0 < 2 ^ 32 = λ i. omega (arith, c.type_inv.message i) in
     let q = put_there (takes_of t (length m)) m (waiting_of t) _ (sized_from (length m) (omega arith) (omega arith)) f (put_waiting t m new (omega arith) (omega arith) words f is) in
     record {
       answer = q.0;

@@ -17,7 +17,7 @@ returns-then-k-self c =
 
 pub invariant_of-self : goal.invariant_of-self
 invariant_of-self c =
-    (front_sound c.args.self.now c.args.k c.if-k-self.false c.find-place.result.0 c.find-place.result.1 c.find-place.ensures.place c.find-place.ensures.size, tt)
+    record { ok = front_sound c.args.self.now c.args.k c.if-k-self.false c.find-place.result.0 c.find-place.result.1 c.find-place.ensures.place c.find-place.ensures.size }
 
 pub loop-i-init : goal.loop-i-init
 loop-i-init c =
@@ -31,7 +31,7 @@ pub invariant_of-self-in-loop-i : goal.invariant_of-self-in-loop-i
 invariant_of-self-in-loop-i c =
     let t = c.loop-i.self in
     let i = c.find-place.result.0 + (c.loop-i.i - (c.find-place.result.0 + 1 + c.find-place.result.1)) in
-    ((simp length-set t.ok.0, t.ok.1, sound_set t.held t.used i _ t.words.now (omega (arith, c.loop-i.invariant.1)) t.ok.2), tt)
+    record { ok = (simp length-set t.ok.0, t.ok.1, sound_set t.held t.used i _ t.words.now (omega (arith, c.loop-i.invariant.1)) t.ok.2) }
 
 pub loop-i-preserved : goal.loop-i-preserved
 loop-i-preserved c =
@@ -49,7 +49,7 @@ moved c =
 
 pub invariant_of-self-2 : goal.invariant_of-self-2
 invariant_of-self-2 c =
-    (close_sound c.args.self.now c.args.k c.if-k-self.false c.find-place.result.0 c.find-place.result.1 c.find-place.ensures.place c.find-place.ensures.size c.loop-i.self.words.now (moved c), tt)
+    record { ok = close_sound c.args.self.now c.args.k c.if-k-self.false c.find-place.result.0 c.find-place.result.1 c.find-place.ensures.place c.find-place.ensures.size c.loop-i.self.words.now (moved c) }
 
 pub returns : goal.returns
 returns c =

@@ -13,7 +13,7 @@ use Rattle.word_mailbox.proofs.calls.WordMailboxMailbox.put.Goals.{After-loop-i}
 pub invariant_of-self : goal.invariant_of-self
 invariant_of-self c =
     let t = c.args.self.now in
-    ((simp length-set t.ok.0, t.ok.1, sound_set t.held t.used t.used _ t.words.now (omega arith) t.ok.2), tt)
+    record { ok = (simp length-set t.ok.0, t.ok.1, sound_set t.held t.used t.used _ t.words.now (omega arith) t.ok.2) }
 
 pub loop-i-init : goal.loop-i-init
 loop-i-init c =
@@ -24,7 +24,7 @@ loop-i-init c =
 pub invariant_of-self-in-loop-i : goal.invariant_of-self-in-loop-i
 invariant_of-self-in-loop-i c =
     let t = c.loop-i.self in
-    ((simp length-set t.ok.0, t.ok.1, sound_set t.held t.used (c.args.self.now.used + 1 + c.loop-i.i) _ t.words.now (omega (arith, c.loop-i.invariant.1)) t.ok.2), tt)
+    record { ok = (simp length-set t.ok.0, t.ok.1, sound_set t.held t.used (c.args.self.now.used + 1 + c.loop-i.i) _ t.words.now (omega (arith, c.loop-i.invariant.1)) t.ok.2) }
 
 pub loop-i-preserved : goal.loop-i-preserved
 loop-i-preserved c =
@@ -66,7 +66,7 @@ invariant_of-self-2 c =
     let m = c.args.message.now in
     let new = c.loop-i.self.words.now in
     let s = put_sound t m new (sym c.if-not-fits.ensures) (omega arith, omega arith) (written c) in
-    ((s.0, s.1, ap (λ x. sound (x + 1) (take (t.used + length m + 1) new)) c.loop-i.invariant.2 ∙ s.2), tt)
+    record { ok = (s.0, s.1, ap (λ x. sound (x + 1) (take (t.used + length m + 1) new)) c.loop-i.invariant.2 ∙ s.2) }
 
 pub returns : goal.returns
 returns c =
