@@ -52,8 +52,8 @@ module _ {S R : Type 0} (K : Ghosts S R) (laws : Laws K) (start : Cluster K.Valu
       let here : History K.Value R = did (fetch s c.place c.given) (number c.size) c.then ∷ c.earlier in
       let whole : Lawful K start (c.later ++ here) = subst (Lawful K start) c.fetched lawful in
       let part : Lawful K start here = lawful_before K laws start c.later here whole in
-      let got : report_count i (reports K start c.sent-after) ≤ entry (clock_of K start here s) i =
-      full_fetched c.earlier part.1 c.then s c.place c.given c.size part.0 i c.sent-after c.sent in
+      let got : report_count i (reports K start c.sent_after) ≤ entry (clock_of K start here s) i =
+      full_fetched c.earlier part.1 c.then s c.place c.given c.size part.0 i c.sent_after c.sent in
       let rest : entry (clock_of K start here s) i ≤ entry (clock_of K start h s) i =
       subst (λ l. entry (clock_of K start here s) i ≤ entry (clock_of K start l s) i) (sym c.fetched) (rises_later K laws start n blank c.later here whole s i low) in
       omega (arith, c.last)

@@ -21,7 +21,7 @@ pub returns-in-Ok : goal.returns-in-Ok
 returns-in-Ok c =
     let bs = c.args.bytes.now in
     let e = sym c.in-Ok.ensures.answer in
-    let small : (i : ℕ) → get_or bs i 0 < 256 = λ i. omega (arith, c.type-inv.bytes i) in
+    let small : (i : ℕ) → get_or bs i 0 < 256 = λ i. omega (arith, c.type_inv.bytes i) in
     let answer = sym (diagnosis_ok bs _ e) in
     record { answer = answer; refused = λ g. (_, e); within = tt; cause = tt; foreign = tt; turned = λ own held is ok some. answer ∙ turned_found bs small own held is ok some }
 
@@ -31,7 +31,7 @@ returns-in-Memory c =
     let f = told_fault c.in-Err.fault in
     let e = sym c.in-Err.ensures.answer in
     let n = ap number_of c.in-Memory.is in
-    let small : (i : ℕ) → get_or bs i 0 < 256 = λ i. omega (arith, c.type-inv.bytes i) in
+    let small : (i : ℕ) → get_or bs i 0 < 256 = λ i. omega (arith, c.type_inv.bytes i) in
     let answer = sym (diagnosis_none bs f e n) in
     record {
       answer = answer;
@@ -48,7 +48,7 @@ returns-in_default c =
     let f = told_fault c.in-Err.fault in
     let e = sym c.in-Err.ensures.answer in
     let ne : f.number ≡ 16 → ⊥ = λ n. c.in_default.not-Memory (memory_number c.in-Err.fault.refusal n) in
-    let small : (i : ℕ) → get_or bs i 0 < 256 = λ i. omega (arith, c.type-inv.bytes i) in
+    let small : (i : ℕ) → get_or bs i 0 < 256 = λ i. omega (arith, c.type_inv.bytes i) in
     let d = told_diagnosis c.explain.result in
     let answer = sym (diagnosis_some bs f d e ne c.explain.ensures) in
     let l = laws bs f small (refused bs f e ne).1 d c.explain.ensures in
