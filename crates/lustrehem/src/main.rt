@@ -27,13 +27,14 @@ use cards::card_record::CardRecord;
 use cards::loan_record::LoanRecord;
 use std::env;
 use std::io::{BufWriter, Write};
+use std::process::ExitCode;
 
-fn main(rt: HostRuntime) -> Result<(), Failure> {
+fn main(rt: HostRuntime) -> ExitCode {
     match run(&rt) {
-        Ok(()) => Ok(()),
+        Ok(()) => ExitCode::SUCCESS,
         Err(failure) => {
             let _ = eprintln!(rt; "Error: {failure}");
-            Err(failure)
+            ExitCode::FAILURE
         }
     }
 }

@@ -20,8 +20,8 @@ loop-preserved g c = then g.C.Crdt _ _ _ c.loop.invariant c.obey.ensures.lines
 pub returns-in_err-announce : goal.returns-in_err-announce
 returns-in_err-announce g c = record { lines = unchanged g.C.Crdt _; promised = promised_of g }
 
-pub returns-in_err-obey : goal.returns-in_err-obey
-returns-in_err-obey g c = record { lines = then g.C.Crdt _ _ _ c.loop.invariant c.obey.ensures.lines; promised = promised_of g }
+pub returns-in_err-obey-in-Some : goal.returns-in_err-obey-in-Some
+returns-in_err-obey-in-Some g c = record { lines = then g.C.Crdt _ _ _ c.loop.invariant c.obey.ensures.lines; promised = promised_of g }
 
 pub returns-in_err-next : goal.returns-in_err-next
 returns-in_err-next g c = record { lines = c.loop.invariant; promised = promised_of g }
