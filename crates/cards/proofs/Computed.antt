@@ -1,15 +1,14 @@
 -- The worked examples hold: antt computes them. Assumes nothing.
-use Rattle.std.proofs.Common.{◌≡◌, ℕ, ◌+◌, ◌-◌, cond, ltb, List, [], ◌∷◌, length, drop, Ok, Err, Result, sym, refl, ap, ◌∙◌}
+use Rattle.std.proofs.Common.{◌≡◌, ℕ, ◌+◌, ◌-◌, cond, ltb, List, [], ◌∷◌, length, drop, Ok, Err, refl, ap, ◌∙◌}
 use Rattle.words.specs.declared.reader.Reader.{Reader}
-use Rattle.words.specs.Readings.{Reading, wrong, Told, load_answer, left, before, fault_at}
+use Rattle.words.specs.Readings.{wrong, load_answer, left}
 use Rattle.entries.specs.Sixteen.{tabulated}
-use Rattle.entries.specs.Rows.{Row, same_row}
+use Rattle.entries.specs.Rows.{same_row}
 use Rattle.entries.specs.Entries.{row_reading}
-use Rattle.counters.specs.Counts.{larger, only, count_reported}
 use Rattle.layouts.proofs.Worked.{worked_pages}
 use Rattle.registers.specs.Bits.{packed}
 use Rattle.registers.specs.Members.{alone}
-use Rattle.cards.specs.Examples.{WorkedExamples, five, five_and_two}
+use Rattle.cards.specs.Examples.{WorkedExamples}
 
 -- words at place 0
 at_start : (ws : List ℕ) (r : Reader) → r.place ≡ 0 → r.words.now ≡ ws → left r ≡ ws

@@ -1,9 +1,9 @@
 -- Worked examples, in the definitions that the contracts of the record kinds cite. Assumes nothing.
 --     WorkedExamples     all of them
-use Rattle.std.specs.Prelude.{◌≡◌, ℕ, List, [], ◌∷◌, negsuc, Ok, Err, sum, Result}
+use Rattle.std.specs.Prelude.{◌≡◌, ℕ, [], ◌∷◌, negsuc, Ok, Err, sum}
 use Rattle.words.specs.declared.reader.Reader.{Reader}
-use Rattle.words.specs.Readings.{Told, load_answer, left}
-use Rattle.entries.specs.Rows.{Row, empty}
+use Rattle.words.specs.Readings.{load_answer, left}
+use Rattle.entries.specs.Rows.{empty}
 use Rattle.entries.specs.Entries.{row_written, row_reading}
 use Rattle.counters.specs.Counts.{clock_of, larger, only, count_reported}
 use Rattle.counters.specs.Orders.{compared}

@@ -1,8 +1,8 @@
 -- The ways of a report of an amount. Assumes nothing.
-use Rattle.std.proofs.Common.{◌≡◌, ℕ, ◌+◌, ◌%◌, ◌<◌, ◌≤◌, cond, eqb, ltb, List, length, get_or, set, replicate, Ok, Err, Result, sym, ap, ◌∙◌, ⊎_elim, arith, get_or-set_other, get_or-set_same}
+use Rattle.std.proofs.Common.{◌≡◌, ℕ, ◌+◌, ◌%◌, ◌<◌, ◌≤◌, cond, eqb, List, length, get_or, set, replicate, Ok, Err, Result, sym, ap, ◌∙◌, ⊎_elim, arith, get_or-set_other, get_or-set_same}
 use Rattle.std.proofs.lemmas.Bool.{eq-eqb, ne_eqb, lt-ltb, le-ltb, cond-true, cond-false, cases_eq}
 use Rattle.words.specs.Refusals.{bare, value_or}
-use Rattle.entries.specs.Sixteen.{tabulated, getD_tabulated}
+use Rattle.entries.specs.Sixteen.{getD_tabulated}
 use Rattle.entries.specs.Rows.{Row, same_row, row_of, empty}
 use Rattle.entries.proofs.Scans.{tabulated_same}
 use Rattle.entries.proofs.Turns.{zero_at, zeros_stand}

@@ -1,11 +1,11 @@
 -- The turns of the loops that join and add counts. Assumes nothing.
-use Rattle.std.proofs.Common.{◌≡◌, ℕ, ◌+◌, ◌*◌, ◌%◌, ◌^◌, ◌<◌, ◌≤◌, max, ◌≢◌, List, [], ◌∷◌, ◌++◌, length, get_or, take, set, sum, sym, ap, ◌∙◌, arith, get_or-set_other, get_or-set_same, below_more}
+use Rattle.std.proofs.Common.{◌≡◌, ℕ, ◌+◌, ◌*◌, ◌%◌, ◌^◌, ◌<◌, ◌≤◌, max, ◌≢◌, List, length, get_or, take, set, sum, ap, ◌∙◌, arith, get_or-set_other, get_or-set_same, below_more}
 use native.Mathlib.Nat.{mod-mod}
 use Rattle.std.proofs.lemmas.Nat.{mod_below}
 use Rattle.std.proofs.lemmas.List.{take_all}
 use Rattle.std.proofs.lemmas.List.Sums.{sum_by_more}
 use Rattle.entries.specs.Sixteen.{tabulated, getD_tabulated}
-use Rattle.entries.specs.Rows.{Row, same_row, length_row, row_of}
+use Rattle.entries.specs.Rows.{same_row, length_row, row_of}
 use Rattle.entries.proofs.Scans.{tabulated_same}
 use Rattle.counters.specs.Counts.{larger}
 

@@ -1,7 +1,7 @@
 -- What the four answers of a comparison mean. Assumes nothing.
-use Rattle.std.proofs.Common.{◌≡◌, ℕ, zero, suc, ◌+◌, ◌%◌, ◌<◌, ◌≤◌, Bool, true, false, cond, ◌&&◌, leb, ◌⊎◌, List, [], ◌∷◌, length, get_or, drop, sym, refl, ap, ◌∙◌, subst, inl, inr, ⊎_elim, arith}
+use Rattle.std.proofs.Common.{◌≡◌, ℕ, zero, suc, ◌+◌, ◌%◌, ◌<◌, ◌≤◌, Bool, true, false, cond, ◌&&◌, leb, List, [], ◌∷◌, length, get_or, drop, sym, ap, ◌∙◌, ⊎_elim, arith}
 use Rattle.std.proofs.lemmas.List.{drop_more, drop_all, ext_get_or}
-use Rattle.std.proofs.lemmas.Bool.{leb-true, leb-false, le-leb, lt-leb, and_parts, and_cases, cases_Bool, true≢false}
+use Rattle.std.proofs.lemmas.Bool.{leb-true, leb-false, and_parts, and_cases, true≢false}
 use Rattle.entries.specs.Sixteen.{getD_tabulated}
 use Rattle.entries.specs.Rows.{Row, same_row, length_row, row_of}
 use Rattle.counters.specs.Orders.{none_higher, nowhere_higher, NowhereHigher, SomewhereHigher, compared, Compared}

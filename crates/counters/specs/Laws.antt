@@ -1,5 +1,5 @@
 -- The four laws of counts under the larger, over the largest count. Assumes nothing.
-use Rattle.std.specs.Prelude.{◌≡◌, ℕ, ◌+◌, ◌%◌, ◌<◌, max, List, [], slice_index, slice_index_or}
+use Rattle.std.specs.Prelude.{◌≡◌, ℕ, ◌+◌, ◌%◌, max, [], slice_index, slice_index_or}
 use Rattle.std.proofs.Common.{sym, arith}
 use Rattle.std.proofs.Math.Nat.{zero-mod}
 use Rattle.entries.specs.Sixteen.{tabulated, getD_tabulated, tabulated_is}

@@ -1,13 +1,13 @@
 -- The turns of the loop that reads a row. Assumes nothing.
-use Rattle.std.proofs.Common.{◌≡◌, ℕ, ◌+◌, ◌-◌, ◌%◌, ◌<◌, ◌≤◌, min, List, [], ◌∷◌, ◌++◌, length, take, drop, set, replicate, Ok, Err, Result, sym, refl, ap, ◌∙◌, subst, append_assoc, add-zero, arith, length-drop, length-set, take-append-drop, drop-drop, drop-set-lt, take-add}
+use Rattle.std.proofs.Common.{◌≡◌, ℕ, ◌+◌, ◌-◌, ◌%◌, ◌<◌, ◌≤◌, List, [], ◌∷◌, ◌++◌, length, take, drop, set, replicate, Ok, Err, sym, refl, ap, ◌∙◌, append_assoc, add-zero, arith, length-drop, length-set, take-append-drop, drop-drop, drop-set-lt, take-add}
 use Rattle.std.proofs.lemmas.List.{take_more_set, take-replicate, drop-replicate}
 use Rattle.words.specs.declared.reader.Reader.{Reader}
 use Rattle.words.specs.Readings.{Reading, read, wrong, left, stepped, before}
 use Rattle.words.specs.Words.{index}
 use Rattle.words.proofs.Walks.{on, on_stepped, on_before}
 use Rattle.entries.specs.declared.item.Item.TheVariants.{Entry, End}
-use Rattle.entries.specs.Rows.{Row, row_of}
-use Rattle.entries.specs.Entries.{examined, later, onward, scan, as_row, row_reading}
+use Rattle.entries.specs.Rows.{row_of}
+use Rattle.entries.specs.Entries.{examined, later, scan, as_row, row_reading}
 use Rattle.entries.proofs.Scans.{entry_is, scan_by}
 
 later_none : (r : Reading (List ℕ)) → later [] r ≡ r

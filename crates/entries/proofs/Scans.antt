@@ -1,5 +1,5 @@
 -- A row's words are read as the row, and what is read as a row is its words. Over the kind and the largest number. Assumes nothing.
-use Rattle.std.proofs.Common.{◌≡◌, ℕ, zero, suc, ◌+◌, ◌-◌, ◌*◌, ◌/◌, ◌%◌, ◌^◌, ◌<◌, ◌≤◌, Bool, true, false, cond, ◌&&◌, T, eqb, ltb, leb, List, [], ◌∷◌, ◌++◌, length, get_or, replicate, Ok, Err, Result, sym, refl, ap, ◌∙◌, subst, append_assoc, add-zero, mod-eq_of_lt, arith, ltb→lt, lt→ltb, length-append}
+use Rattle.std.proofs.Common.{◌≡◌, ℕ, zero, suc, ◌+◌, ◌-◌, ◌%◌, ◌<◌, ◌≤◌, Bool, true, false, cond, ◌&&◌, T, eqb, ltb, leb, List, [], ◌∷◌, ◌++◌, length, replicate, Ok, Err, Result, sym, refl, ap, ◌∙◌, subst, append_assoc, add-zero, mod-eq_of_lt, arith, ltb→lt, lt→ltb, length-append}
 use Rattle.std.proofs.lemmas.Nat.{mod_below}
 use Rattle.std.proofs.lemmas.List.{append-nil, length-replicate, replicate_more}
 use Rattle.std.proofs.lemmas.Bool.{eq-eqb, ne_eqb, eqb-true, eqb-false, lt-ltb, le-leb, leb-true, ltb-true, cond-true, cond-false, and_from, and_parts}
@@ -8,7 +8,7 @@ use Rattle.words.specs.Words.{kind, index, formed}
 use Rattle.entries.specs.declared.item.Item.{Item}
 use Rattle.entries.specs.declared.item.Item.TheVariants.{Entry, End}
 use Rattle.entries.specs.Sixteen.{all_below, tabulated, length_tabulated, getD_tabulated, tabulated_is, both, first_of, second_of, below_at}
-use Rattle.entries.specs.Rows.{Row, same_row, length_row, row_low, row_of}
+use Rattle.entries.specs.Rows.{Row, same_row, length_row, row_of}
 use Rattle.entries.specs.Entries.{entry_word, end_word, entries, entries_and_end, row_written, examined, later, onward, scan, as_row, row_reading}
 use Rattle.entries.proofs.Fits.{Fits, kind_entry, index_entry, kind_end, formed_end, number_end, splits_end}
 

@@ -5,7 +5,7 @@ use Rattle.std.proofs.lemmas.Bool.{eq-eqb, ne_eqb, cond-true, cond-false}
 use Rattle.words.specs.Writes.{put}
 use Rattle.words.proofs.Writes.{put_step, put_last}
 use Rattle.entries.specs.Sixteen.{getD_tabulated}
-use Rattle.entries.specs.Rows.{Row, same_row, length_row, row_of, empty}
+use Rattle.entries.specs.Rows.{same_row, length_row, row_of, empty}
 use Rattle.entries.specs.Entries.{entry_word, end_word, entries, entries_and_end}
 use Rattle.entries.proofs.Scans.{tabulated_same}
 

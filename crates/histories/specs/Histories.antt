@@ -9,7 +9,7 @@
 --     spanned i a b log    the deltas of those of station i after number a, up to number b
 --     join_of K vs         the join of values; of none it is bottom
 --     origins h            how each waiting message came: who sent it, and after which history
-use Rattle.std.specs.Prelude.{◌≡◌, ℕ, suc, ◌<◌, Bool, cond, ◌&&◌, List, [], ◌∷◌, ◌++◌, length, ◌==◌, nat_le, nat_lt, slice_index_or}
+use Rattle.std.specs.Prelude.{◌≡◌, ℕ, suc, ◌<◌, cond, ◌&&◌, List, [], ◌∷◌, ◌++◌, length, ◌==◌, nat_le, nat_lt, slice_index_or}
 use Rattle.std.specs.List.{remove}
 use Rattle.words.specs.Refusals.{value_or}
 use Rattle.crdt.specs.declared.kind.Crdt.{Ghosts}

@@ -1,8 +1,8 @@
 -- What holds of every history of calls from a fresh table and an empty mailbox. Assumes nothing.
 --     Promised K start n h     all of it, of history h of n stations from cluster start, at each of its moments
---     PromisedFrom K ts       it is so of every history from stations ts and an empty mailbox
+--     PromisedFrom K ts        it is so of every history from stations ts and an empty mailbox
 -- A moment of h is an earlier part g, with later ++ g ≡ h: after any number of its calls, from none to all.
-use Rattle.std.specs.Prelude.{◌≡◌, ℕ, ◌<◌, ◌≤◌, Bool, ◌≢◌, List, [], ◌∷◌, ◌++◌, length, Ok, Err, Result, slice_index_or}
+use Rattle.std.specs.Prelude.{◌≡◌, ℕ, ◌<◌, ◌≤◌, Bool, ◌≢◌, List, [], ◌∷◌, ◌++◌, length, Ok, slice_index_or}
 use Rattle.std.specs.List.{AllByRecursion as All}
 use Rattle.words.specs.Writes.{most, write_answer, write_leaves}
 use Rattle.crdt.specs.declared.kind.Crdt.{Ghosts}
@@ -11,7 +11,7 @@ use Rattle.wire.specs.Messages.{Message, full, delta, Clock}
 use Rattle.wire.specs.Openings.{unpacked}
 use Rattle.histories.specs.Clusters.{Station, Cluster, entry, found}
 use Rattle.histories.specs.Calls.{fetch, number, answered}
-use Rattle.histories.specs.Histories.{Event, did, History, Accepted, as_full, origin, report_count, covered, spanned, join_of, station, end, clock_of, held_by, reports, Fresh, Lawful}
+use Rattle.histories.specs.Histories.{did, History, Accepted, as_full, origin, report_count, covered, spanned, join_of, station, end, clock_of, held_by, reports, Fresh, Lawful}
 
 module _ {S R : Type 0} (K : Ghosts S R) (start : Cluster K.Value) where
   -- in history h, station s has fetched from station i a full message that was sent after all accepted reports made there

@@ -1,12 +1,12 @@
 -- What a diagnosis says of the bytes of an image. Assumes nothing.
 --     Accepted bs             bytes that are whole pages are accepted by their check
 --     Within bs at n          byte n lies in the page that begins at byte `at`, and that page in the image
---     FirstSet bs from n     byte n is the first from byte `from` on that is not zero
+--     FirstSet bs from n      byte n is the first from byte `from` on that is not zero
 --     Says cause bs at n      what a cause says of byte n, where the wrong page begins at byte `at`
---     ForeignAt bs at        the page head of a message stands at byte `at`, written in the other byte order
+--     ForeignAt bs at         the page head of a message stands at byte `at`, written in the other byte order
 --     Foreign bs at n b       where b holds, it does, and the image is refused with n = 10; where it does, b holds
 --     foreign_image           the diagnosis of an image that a station of the other byte order wrote
---     TurnedFound bs r       where bytes are an accepted image with a message, turned round, r is that diagnosis
+--     TurnedFound bs r        where bytes are an accepted image with a message, turned round, r is that diagnosis
 use Rattle.std.specs.Prelude.{◌≡◌, ℕ, ◌+◌, ◌*◌, ◌/◌, ◌%◌, ◌<◌, ◌≤◌, Bool, true, List, length, take, drop, Some, Ok, Option, ◌≢◌, slice_index}
 use Rattle.words.specs.Writes.{most}
 use Rattle.layouts.specs.Rows.{head}

@@ -2,7 +2,7 @@
 --     image_of n ms      the bytes of n pages that hold messages: their pages in order, then pages of zero bytes
 --     Writable n ms      n is 1 to 128, and ms are at most n messages of 1 to 127 words, each word of 32 bits
 --     Written bs held    bytes are the writing of the held messages that are read from them
---     ImagesAccepted    every writing of messages is accepted with their number, and reads back
+--     ImagesAccepted     every writing of messages is accepted with their number, and reads back
 use Rattle.std.specs.Prelude.{◌≡◌, ℕ, zero, suc, ◌/◌, ◌^◌, ◌<◌, ◌≤◌, List, [], ◌∷◌, ◌++◌, length, replicate, Ok}
 use Rattle.std.specs.List.{AllByRecursion as All}
 use Rattle.mailboxes.specs.Mailboxes.{Message}

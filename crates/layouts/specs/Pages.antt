@@ -1,16 +1,16 @@
 -- How messages lie in pages of 512 bytes. Assumes nothing.
---     le_bytes w           the bytes of a word, the lowest first
---     be_bytes w           the bytes of a word, the highest first
---     bytes_of ws          the bytes of words
---     word_at bs p         the word whose lowest byte is byte p
---     words_of n bs        the first n words of bytes
---     page_of m            the page of a message: its page head, its words and zero bytes
---     page_length page     the length that its page head tells
---     page_message page    the message of a page
---     pages_of n bs        the messages of the first n pages
---     page_takes pages ms n    whether a page store of so many pages, in which ms wait, takes a message of n words: a page is left
---     page_put fits ms m bs    its bytes after a put of m
---     page_discard ms k bs     its bytes after a discard of message k
+--     le_bytes w             the bytes of a word, the lowest first
+--     be_bytes w             the bytes of a word, the highest first
+--     bytes_of ws            the bytes of words
+--     word_at bs p           the word whose lowest byte is byte p
+--     words_of n bs          the first n words of bytes
+--     page_of m              the page of a message: its page head, its words and zero bytes
+--     page_length page       the length that its page head tells
+--     page_message page      the message of a page
+--     pages_of n bs          the messages of the first n pages
+--     page_takes pages ms n  whether a page store of so many pages, in which ms wait, takes a message of n words: a page is left
+--     page_put fits ms m bs  its bytes after a put of m
+--     page_discard ms k bs   its bytes after a discard of message k
 use Rattle.std.specs.Prelude.{ℕ, zero, suc, ◌+◌, ◌-◌, ◌*◌, ◌/◌, ◌%◌, ◌^◌, Bool, cond, ◌&&◌, List, [], ◌∷◌, ◌++◌, length, take, drop, replicate, nat_lt, slice_index}
 use Rattle.words.specs.Writes.{put}
 use Rattle.mailboxes.specs.Mailboxes.{sized, counted}

@@ -5,8 +5,7 @@ use Rattle.mailboxes.specs.declared.mailbox.Mailbox.{Ghosts as Boxes}
 use Rattle.mailboxes.specs.Mailboxes.{put_leaves}
 use Rattle.histories.specs.Clusters.{Cluster}
 use Rattle.histories.specs.Calls.{Call, Answer, Step}
-use Rattle.histories.specs.Histories.{did, end, Fresh, Lawful}
-use Rattle.histories.specs.Promises.{Promised}
+use Rattle.histories.specs.Histories.{end, Lawful}
 use Rattle.histories.proofs.Overs.{Laws}
 use Rattle.histories.proofs.Promised.{histories_promised}
 use Rattle.stations.specs.declared.station.Station.{Station}

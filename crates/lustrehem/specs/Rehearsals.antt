@@ -4,13 +4,13 @@
 --     Delivered y m z        words m, put into the mailbox of cluster y, leave cluster z
 --     Follows K y ls         each of the lines ls, from cluster y on, leaves what its call or its put leaves
 --     Rehearsed K y z        some such lines lead from cluster y to cluster z
---     CallsOnly ls          none of the lines puts words
+--     CallsOnly ls           none of the lines puts words
 --     history_of ls          the history of the calls among them
 --     Made K y c z           call c, made in cluster y, leaves cluster z
 --     Obeyed K ws y z c      a line that asks for command c makes of cluster y what it asks for, cluster z; ws are the words of a put. What
 --                            station s reports is a report of the record kind, or nothing where the kind has none of that sort
 --     plain_of c             the call that command c asks for, where it is one that every record kind has
---     RehearsalPromised K   calls alone, from a fresh cluster, are a history, and all that is promised of histories holds of it
+--     RehearsalPromised K    calls alone, from a fresh cluster, are a history, and all that is promised of histories holds of it
 use Rattle.std.specs.Prelude.{◌≡◌, ℕ, min, false, ◌⊎◌, List, [], ◌∷◌, length, take, Some, None, Option}
 use Rattle.crdt.specs.declared.kind.Crdt.{Ghosts}
 use Rattle.mailboxes.specs.Mailboxes.{put_leaves}

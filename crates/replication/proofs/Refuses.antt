@@ -13,7 +13,7 @@ use Rattle.fetches.specs.declared.fault.FetchFault.{FetchFault}
 use Rattle.fetches.specs.Fetches.{fetch_told}
 use Rattle.replication.specs.declared.answer.Answer.{Answer}
 use Rattle.replication.specs.declared.answer.Answer.TheVariants as stored
-use Rattle.replication.specs.Runs.{told, IfRefused, Goes_on}
+use Rattle.replication.specs.Runs.{told, IfRefused, GoesOn}
 
 in_any_case : (a : Answer) (P : Type 0) → P → IfRefused a P
 in_any_case stored.Done P p = tt
@@ -53,7 +53,7 @@ module _ {X M : Type 0} (a : Answer) (was is : X) (m n : M) where
   fetch_kept (Ok l) e p q = not_number a _ l e
   fetch_kept (Err f) e p q = in_any_case a _ (p, q)
 
-pub goes_on : {S R : Type 0} (K : Ghosts S R) → Laws K → (y z : Cluster K.Value) (c : Call R) (a : Said) → Step K y c a z → Goes_on K y c a z
+pub goes_on : {S R : Type 0} (K : Ghosts S R) → Laws K → (y z : Cluster K.Value) (c : Call R) (a : Said) → Step K y c a z → GoesOn K y c a z
 goes_on K laws y z c a step start n fresh h lawful at =
     let more : Lawful K start (did c a z ∷ h) = (subst (λ x. Step K x c a z) (sym at) step, lawful) in
     (more, histories_promised K laws start n fresh (did c a z ∷ h) more)

@@ -6,8 +6,8 @@
 --     calls_of h, answers_of h         the calls of a history and their answers, the oldest first
 --     Ran                              a history of exactly these calls, with exactly these answers, from a fresh start to a cluster
 --     Replayed                         the same, and all that is promised of that history
---     IfRefused a P                   P, where answer a is a refusal
---     Goes_on K y c a z                whatever history led from a fresh start to cluster y, all that is promised of histories holds of it with call c
+--     IfRefused a P                    P, where answer a is a refusal
+--     GoesOn K y c a z                 whatever history led from a fresh start to cluster y, all that is promised of histories holds of it with call c
 --     replay_answer                    whether a list of so many calls is begun, by the room for answers, the messages that wait and the places of the table
 use Rattle.std.specs.Prelude.{◌≡◌, ℕ, Bool, cond, List, [], ◌∷◌, ◌++◌, Ok, Err, Result, nat_lt}
 use Rattle.words.specs.Readings.{told_fault}
@@ -99,6 +99,6 @@ module _ {S R : Type 0} (K : Ghosts S R) where
     pub run : Ran n takes calls answers old new z
     pub promised : Promised K run.start n run.history
 
-  abbrev pub Goes_on : Cluster K.Value → Asked R → Said → Cluster K.Value → Type 0
-  Goes_on y c a z = (start : Cluster K.Value) (n : ℕ) → Fresh K n start → (h : History K.Value R) → Lawful K start h → end start h ≡ y →
+  abbrev pub GoesOn : Cluster K.Value → Asked R → Said → Cluster K.Value → Type 0
+  GoesOn y c a z = (start : Cluster K.Value) (n : ℕ) → Fresh K n start → (h : History K.Value R) → Lawful K start h → end start h ≡ y →
       Lawful K start (did c a z ∷ h) × Promised K start n (did c a z ∷ h)

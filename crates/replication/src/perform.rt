@@ -2,7 +2,7 @@
 ghost use Rattle.std.specs.Prelude.{◌≡◌, length};
 ghost use Rattle.histories.specs.Calls.{Step};
 ghost use Rattle.stations.specs.Stored.{cluster_of};
-ghost use Rattle.replication.specs.Runs.{asked, told, words_after, IfRefused, Goes_on};
+ghost use Rattle.replication.specs.Runs.{asked, told, words_after, IfRefused, GoesOn};
 
 use crate::answer::Answer;
 use crate::call::Call;
@@ -26,7 +26,7 @@ pub fn perform<C: Crdt, M: Mailbox>(
     ensures step { Step C.Crdt (cluster_of C.Crdt M.Mailbox stations.old mailbox.old) (asked (length words.old) call.now) (told result) (cluster_of C.Crdt M.Mailbox stations.new mailbox.new) }
     ensures words { words.new ≡ words_after C.Crdt (cluster_of C.Crdt M.Mailbox stations.old mailbox.old) (asked (length words.old) call.now) words.old }
     ensures refused { IfRefused result ((stations.new ≡ stations.old) × (mailbox.new ≡ mailbox.old)) }
-    ensures promised { Goes_on C.Crdt (cluster_of C.Crdt M.Mailbox stations.old mailbox.old) (asked (length words.old) call.now) (told result) (cluster_of C.Crdt M.Mailbox stations.new mailbox.new) }
+    ensures promised { GoesOn C.Crdt (cluster_of C.Crdt M.Mailbox stations.old mailbox.old) (asked (length words.old) call.now) (told result) (cluster_of C.Crdt M.Mailbox stations.new mailbox.new) }
 {
     match call {
         Call::Report { station, report: x } => Answer::of_call(report(stations, *station, *x)),

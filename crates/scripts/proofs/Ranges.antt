@@ -12,7 +12,6 @@ use Rattle.scripts.specs.declared.keywords.Shape.TheVariants as shape
 use Rattle.scripts.specs.declared.keywords.Verb.{Verb}
 use Rattle.scripts.specs.declared.keywords.Verb.TheVariants as verb
 use Rattle.scripts.specs.declared.store.MailboxShape.TheVariants as mailbox
-use Rattle.scripts.specs.declared.store.Store.{Store}
 use Rattle.scripts.specs.declared.store.Store.TheVariants as store
 use Rattle.scripts.specs.Grammar.{store_by, part_of, one_store, two_stores, mailbox_by, report_of, sent, send_of, fetch_of, compare_of, put_of, all_words, asked, at_end, whole, understood}
 use Rattle.scripts.specs.Keywords.{named, verbs, record_kinds, shapes, kinds, whats}

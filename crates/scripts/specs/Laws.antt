@@ -1,6 +1,6 @@
 -- What holds of commands that are printed and understood again. Assumes nothing.
 --     InRange c         the numbers of a command are those that a line can hold
---     Ranged r           an answer's command, if it has one, is in range
+--     Ranged r          an answer's command, if it has one, is in range
 --     PrintedBack       what is printed of such a command is understood as it; but for a put, which is printed without its words
 use Rattle.std.specs.Prelude.{◌≡◌, ℕ, ◌^◌, ◌<◌, ◌≤◌, Some, None, Ok, Err, Option, Result, ◌≢◌}
 use Rattle.scripts.specs.declared.command.Command.{Command}

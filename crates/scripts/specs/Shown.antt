@@ -1,5 +1,5 @@
 -- The one form in which a command is printed. Assumes nothing.
---     kind_shown, store_shown, mailbox_shown, what_shown     the parts of a command
+--     kind_shown, store_shown, mailbox_shown, what_shown  the parts of a command
 --     shown c                a command; of a put the verb alone, since its words stand elsewhere
 --     expected_shown e       what is said of a line that is not understood
 use Rattle.std.specs.Prelude.{ℕ, List, ◌++◌, codes, decimal}

@@ -1,7 +1,7 @@
 -- A table that is made fresh is the beginning of histories that keep the promise. Assumes nothing.
-use Rattle.std.proofs.Common.{◌≡◌, ℕ, zero, suc, ◌+◌, ◌<◌, ◌≤◌, List, [], ◌∷◌, length, get_or, sym, refl, ap, ◌∙◌, subst, add-zero, zero-add, arith}
+use Rattle.std.proofs.Common.{◌≡◌, ℕ, zero, suc, ◌+◌, ◌<◌, ◌≤◌, List, [], length, get_or, sym, refl, ap, ◌∙◌, add-zero, zero-add, arith}
 use Rattle.crdt.specs.declared.kind.Crdt.{Ghosts}
-use Rattle.histories.specs.Clusters.{Station, Cluster, fresh}
+use Rattle.histories.specs.Clusters.{Station, fresh}
 use Rattle.histories.specs.Histories.{Fresh}
 use Rattle.histories.specs.Promises.{PromisedFrom}
 use Rattle.histories.proofs.Overs.{Laws}

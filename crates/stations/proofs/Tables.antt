@@ -1,9 +1,9 @@
 -- One place of a table. Assumes nothing.
-use Rattle.std.proofs.Common.{◌≡◌, ℕ, zero, suc, ◌<◌, ◌≤◌, cond, eqb, ltb, List, [], ◌∷◌, map, length, get_or, Ok, Err, Result, refl, ap, ◌∙◌, arith}
+use Rattle.std.proofs.Common.{◌≡◌, ℕ, zero, suc, ◌<◌, ◌≤◌, List, [], ◌∷◌, map, length, get_or, Ok, Err, refl, ap, ◌∙◌, arith}
 use Rattle.std.proofs.lemmas.List.{length-map}
 use Rattle.std.proofs.lemmas.Bool.{lt-ltb, le-ltb, eq-eqb, ne_eqb, cond-true, cond-false}
 use Rattle.crdt.specs.declared.kind.Crdt.{Ghosts}
-use Rattle.histories.specs.Clusters.{Station as Meant, at_place, bearing, found}
+use Rattle.histories.specs.Clusters.{at_place, bearing, found}
 use Rattle.stations.specs.declared.station.Station.{Station}
 use Rattle.stations.specs.Stored.{station_of}
 

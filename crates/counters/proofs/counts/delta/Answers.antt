@@ -1,4 +1,4 @@
-use Rattle.std.proofs.Common.{◌≡◌, ℕ, ◌+◌, ◌%◌, get_or, Err, sym, ap, ◌∙◌, ⊎_elim, arith}
+use Rattle.std.proofs.Common.{◌≡◌, ◌+◌, ◌%◌, get_or, Err, sym, ap, ◌∙◌, ⊎_elim, arith}
 use Rattle.words.specs.Refusals.{bare, value_or}
 use Rattle.entries.specs.Kinds.{top_of}
 use Rattle.entries.specs.Rows.{row_of, empty}

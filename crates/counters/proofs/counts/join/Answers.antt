@@ -1,4 +1,4 @@
-use Rattle.std.proofs.Common.{◌≡◌, ℕ, ◌+◌, ◌%◌, ◌<◌, List, length, get_or, set, sym, ap, ◌∙◌, subst, arith, length-set}
+use Rattle.std.proofs.Common.{◌≡◌, ℕ, ◌+◌, ◌%◌, List, length, get_or, set, sym, ap, ◌∙◌, subst, arith, length-set}
 use Rattle.entries.specs.Kinds.{top_of}
 use Rattle.counters.proofs.Joins.{Joining, joining_kept, joining_set, joining_all}
 use Rattle.counters.proofs.counts.join.Goals as goal

@@ -1,8 +1,7 @@
-use Rattle.std.proofs.Common.{◌≡◌, ℕ, ◌+◌, ◌%◌, ◌<◌, List, [], ◌∷◌, length, set, Ok, sym, refl, ap, ◌∙◌, subst, arith}
+use Rattle.std.proofs.Common.{◌≡◌, ℕ, ◌+◌, ◌%◌, ◌<◌, List, length, set, Ok, sym, refl, ap, ◌∙◌, subst, arith}
 use Rattle.words.specs.declared.reader.Reader.{Reader}
 use Rattle.words.specs.Readings.{Reading, read, wrong, rest, left, stepped, before}
 use Rattle.words.specs.Refusals.{number_of}
-use Rattle.words.specs.Words.{index}
 use Rattle.words.proofs.Walks.{at_rest, answer_wrong, answer_read}
 use Rattle.entries.specs.Kinds.{top_of, entry_number}
 use Rattle.entries.specs.Rows.{Row, row_of}

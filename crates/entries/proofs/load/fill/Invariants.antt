@@ -1,4 +1,4 @@
-use Rattle.std.proofs.Common.{◌-◌, length}
+use Rattle.std.proofs.Common.{length}
 use Rattle.words.specs.Readings.{left}
 use Rattle.entries.specs.Kinds.{top_of, entry_number}
 use Rattle.entries.proofs.Fills.{Filling}

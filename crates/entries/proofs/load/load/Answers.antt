@@ -1,4 +1,4 @@
-use Rattle.std.proofs.Common.{◌≡◌, sym, ◌∙◌}
+use Rattle.std.proofs.Common.{sym, ◌∙◌}
 use Rattle.words.proofs.Walks.{refused_least}
 use Rattle.words.specs.Readings.{left}
 use Rattle.entries.specs.Kinds.{top_of, entry_number}

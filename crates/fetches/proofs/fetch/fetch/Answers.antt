@@ -1,4 +1,4 @@
-use Rattle.std.proofs.Common.{ℕ, ◌-◌, ◌≤◌, [], map, length, get_or, take, Ok, Err, sym, refl, ap, ◌∙◌, arith}
+use Rattle.std.proofs.Common.{ℕ, ◌-◌, ◌≤◌, [], map, length, get_or, take, Err, sym, refl, ap, ◌∙◌, arith}
 use Rattle.words.specs.Refusals.{number_of, bare, value_or}
 use Rattle.histories.specs.Clusters.{found}
 use Rattle.histories.specs.Calls.{faulted, fetching, fetched_if, changed}

@@ -1,5 +1,3 @@
-use Rattle.histories.proofs.Overs.{Laws}
-use Rattle.stations.specs.Stored.{cluster_of}
 use Rattle.wire.proofs.Laws.{both_ways}
 use Rattle.lustrehem.specs.Rehearsals.{RehearsalPromised}
 use Rattle.lustrehem.proofs.Rehearses.{unchanged, then, rehearsal_promised}

@@ -15,10 +15,12 @@ held-are c = c.extent-pages.ensures.held ∙ ap (value_or 0) c.check.ensures.ans
 pub invariant_of-result : goal.invariant_of-result
 invariant_of-result c =
     let bs = c.args.bytes.now in
-    let ok = mounted_ok bs in record { ok = (
+    let ok = mounted_ok bs in record {
+      ok = (
         ap (λ x. pages_sound x c.extent-pages.result.1 bs) (pages-are c) ∙ ap (λ x. pages_sound (mounted_pages (mount_check bs) (length bs)) x bs) (held-are c) ∙ ok.0,
         ap (λ x. whole x (length bs)) (pages-are c) ∙ ok.1,
-      ) }
+      );
+    }
 
 pub returns : goal.returns
 returns c =

@@ -1,7 +1,6 @@
-use Rattle.std.proofs.Common.{◌≡◌, ◌≤◌, length, get_or, Ok, Err, sym, ap, ◌∙◌, ⊎_elim, arith}
+use Rattle.std.proofs.Common.{sym, ap, ◌∙◌, ⊎_elim}
 use Rattle.std.proofs.lemmas.List.{get_or_default}
 use Rattle.words.specs.Refusals.{bare}
-use Rattle.histories.specs.Clusters.{found}
 use Rattle.stations.proofs.Tables.{found_many, found_past, found_other, found_here}
 use Rattle.stations.proofs.table.find.Goals as goal
 

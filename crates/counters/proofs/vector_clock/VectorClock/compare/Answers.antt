@@ -1,4 +1,4 @@
-use Rattle.std.proofs.Common.{◌≡◌, true, false}
+use Rattle.std.proofs.Common.{true, false}
 use Rattle.counters.specs.Counts.{clock_of}
 use Rattle.counters.proofs.Orders.{tested, tested_means}
 use Rattle.counters.proofs.vector_clock.VectorClock.compare.Goals as goal
