@@ -1,7 +1,7 @@
 -- What the laws of a kind give of joins of deltas. Assumes nothing.
 use Rattle.std.proofs.Common.{◌≡◌, ℕ, suc, ◌≤◌, Bool, true, false, cond, ◌&&◌, ◌||◌, eqb, ltb, leb, List, [], ◌∷◌, sym, refl, ap, ◌∙◌, arith}
 use Rattle.std.proofs.lemmas.Bool.{cond-true, cond-false, cond_both, eq-eqb}
-use Rattle.std.specs.List.{AllByRecursion as All}
+use Rattle.std.specs.List.{AllByRecursion}
 use Rattle.crdt.specs.declared.kind.Crdt.{Ghosts}
 use Rattle.wire.specs.Messages.{Clock}
 use Rattle.wire.specs.Openings.{OneToOne}
@@ -115,7 +115,7 @@ module _ {S R : Type 0} (K : Ghosts S R) (laws : Laws K) where
       ∙ ap (λ k. cond (spans i a b e.by k) (K.joined e.change (join_of K (spanned i a b older))) (join_of K (spanned i a b older))) numbered.0
       ∙ ap (λ v. cond (spans i a b e.by (suc (report_count e.by older))) (K.joined e.change v) v) (join_spanned i a b older numbered.1)
 
-pub numbered_le : {V : Type 0} (P : ℕ → ℕ) (log : List (Accepted V)) → Numbered log → ((i : ℕ) → report_count i log ≤ P i) → All (λ e. e.nth ≤ P e.by) log
+pub numbered_le : {V : Type 0} (P : ℕ → ℕ) (log : List (Accepted V)) → Numbered log → ((i : ℕ) → report_count i log ≤ P i) → AllByRecursion (λ e. e.nth ≤ P e.by) log
 numbered_le P [] numbered high = tt
 numbered_le P (e ∷ older) numbered high =
     (omega (arith, numbered.0, count_self e older, high e.by), numbered_le P older numbered.1 (λ i. omega (arith, high i, count_le i e older)))

@@ -3,7 +3,7 @@
 --     PromisedFrom K ts        it is so of every history from stations ts and an empty mailbox
 -- A moment of h is an earlier part g, with later ++ g ≡ h: after any number of its calls, from none to all.
 use Rattle.std.specs.Prelude.{◌≡◌, ℕ, ◌<◌, ◌≤◌, Bool, ◌≢◌, List, [], ◌∷◌, ◌++◌, length, Ok, slice_index_or}
-use Rattle.std.specs.List.{AllByRecursion as All}
+use Rattle.std.specs.List.{AllByRecursion}
 use Rattle.words.specs.Writes.{most, write_answer, write_leaves}
 use Rattle.crdt.specs.declared.kind.Crdt.{Ghosts}
 use Rattle.mailboxes.specs.Mailboxes.{counted}
@@ -32,7 +32,7 @@ module _ {S R : Type 0} (K : Ghosts S R) (start : Cluster K.Value) where
   Gathered n h s = (i : ℕ) → i < n → i ≢ s → CaughtUp h s i
 
   abbrev pub CoversAll : History K.Value R → ℕ → Type 0
-  CoversAll h s = All (λ e. e.nth ≤ entry (clock_of K start h s) e.by) (reports K start h)
+  CoversAll h s = AllByRecursion (λ e. e.nth ≤ entry (clock_of K start h s) e.by) (reports K start h)
 
   -- a write of two values, handed the same words and place, answers and leaves the same
   abbrev pub WrittenAlike : K.Value → K.Value → Type 0

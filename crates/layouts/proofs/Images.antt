@@ -1,7 +1,7 @@
 -- What the check accepts is the one writing of its messages, and every writing of messages is accepted. Assumes nothing.
 use Rattle.std.proofs.Common.{◌≡◌, ℕ, zero, suc, ◌+◌, ◌-◌, ◌*◌, ◌/◌, ◌%◌, ◌^◌, ◌<◌, ◌≤◌, true, ◌&&◌, eqb, List, [], ◌∷◌, ◌++◌, length, get_or, take, drop, replicate, IfOk, Ok, Err, Result, sym, refl, ap, ◌∙◌, arith}
 use native.Mathlib.Nat.{div-div-eq-div-mul}
-use Rattle.std.specs.List.{AllByRecursion as All}
+use Rattle.std.specs.List.{AllByRecursion}
 use Rattle.std.proofs.lemmas.List.{length-append, length-take-le, length-drop, length-replicate, take-append-drop, take_at, drop_at, drop-drop, get_or-drop, nil_from_length}
 use Rattle.std.proofs.lemmas.Bool.{and_parts, and_from, eq-eqb, ne_eqb, le-leb, eqb-true, false≢true}
 use Rattle.words.specs.declared.fault.Fault.{Fault}
@@ -65,11 +65,11 @@ words_whole (suc n) (a ∷ b ∷ c ∷ d ∷ bs) l s =
     ∙ ap (λ x. a ∷ b ∷ c ∷ d ∷ x) (words_whole n bs (omega arith) (λ i. s (suc (suc (suc (suc i))))))
     ∙ ap (λ x. take x (a ∷ b ∷ c ∷ d ∷ bs)) (sym j)
 
-words_small : (n : ℕ) (bs : List ℕ) → Small bs → All (λ w. w < 2 ^ 32) (words_of n bs)
+words_small : (n : ℕ) (bs : List ℕ) → Small bs → AllByRecursion (λ w. w < 2 ^ 32) (words_of n bs)
 words_small zero bs s = tt
 words_small (suc n) bs s = (omega (arith, s 0, s 1, s 2, s 3), words_small n (drop 4 bs) (small_drop 4 bs s))
 
-pages_small : (n : ℕ) (bs : List ℕ) → Small bs → All (All (λ w. w < 2 ^ 32)) (pages_of n bs)
+pages_small : (n : ℕ) (bs : List ℕ) → Small bs → AllByRecursion (AllByRecursion (λ w. w < 2 ^ 32)) (pages_of n bs)
 pages_small zero bs s = tt
 pages_small (suc n) bs s =
     let page = take 512 bs in
@@ -159,7 +159,7 @@ written bs (Ok held) s e = exact bs held s (sym e)
 written bs (Err f) s e = tt
 
 -- an image has its pages' length
-length_image : (n : ℕ) (ms : List (List ℕ)) → All Message ms → length (image_of n ms) ≡ 512 * n
+length_image : (n : ℕ) (ms : List (List ℕ)) → AllByRecursion Message ms → length (image_of n ms) ≡ 512 * n
 length_image zero ms a = refl
 length_image (suc n) [] a =
     let ih = length_image n [] tt in
@@ -169,7 +169,7 @@ length_image (suc n) (m ∷ ms) a =
     omega (arith, length-append (page_of m) (image_of n ms), length_page_of m a.0.1)
 
 -- it is of sound pages
-image_sound : (n : ℕ) (ms : List (List ℕ)) → length ms ≤ n → All Message ms → pages_sound n (length ms) (image_of n ms) ≡ true
+image_sound : (n : ℕ) (ms : List (List ℕ)) → length ms ≤ n → AllByRecursion Message ms → pages_sound n (length ms) (image_of n ms) ≡ true
 image_sound zero [] h a = refl
 image_sound zero (m ∷ ms) h a = absurd (omega arith)
 image_sound (suc n) [] h a =
@@ -184,7 +184,7 @@ image_sound (suc n) (m ∷ ms) h a =
     (ap (pages_sound n (length ms)) (drop_at (page_of m) rest 512 l) ∙ image_sound n ms (omega arith) a.1)
 
 -- and its messages read back
-image_back : (n : ℕ) (ms : List (List ℕ)) → length ms ≤ n → All Message ms → All (All (λ w. w < 2 ^ 32)) ms → pages_of (length ms) (image_of n ms) ≡ ms
+image_back : (n : ℕ) (ms : List (List ℕ)) → length ms ≤ n → AllByRecursion Message ms → AllByRecursion (AllByRecursion (λ w. w < 2 ^ 32)) ms → pages_of (length ms) (image_of n ms) ≡ ms
 image_back n [] h a s = refl
 image_back zero (m ∷ ms) h a s = absurd (omega arith)
 image_back (suc n) (m ∷ ms) h a s =
@@ -195,7 +195,7 @@ image_back (suc n) (m ∷ ms) h a s =
     ∙ ap (λ x. x ∷ pages_of (length ms) rest) (page_back m a.0.1 (within m s.0))
     ∙ ap (λ x. m ∷ x) (image_back n ms (omega arith) a.1 s.1)
   where
-    within : (m : List ℕ) → All (λ w. w < 2 ^ 32) m → (i : ℕ) → get_or m i 0 < 2 ^ 32
+    within : (m : List ℕ) → AllByRecursion (λ w. w < 2 ^ 32) m → (i : ℕ) → get_or m i 0 < 2 ^ 32
     within [] s i = omega arith
     within (w ∷ m) s zero = s.0
     within (w ∷ m) s (suc i) = within m s.1 i

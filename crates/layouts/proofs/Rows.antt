@@ -1,7 +1,7 @@
 -- What the words of a word store hold, and what a put and a discard make of them. Assumes nothing.
 use Rattle.std.proofs.Common.{◌≡◌, ℕ, zero, suc, ◌+◌, ◌-◌, ◌%◌, ◌<◌, ◌≤◌, Bool, true, ◌&&◌, ltb, leb, List, [], ◌∷◌, ◌++◌, length, get_or, take, drop, set, sym, refl, ap, ◌∙◌, append_assoc, arith, drop-cons}
 use lib.Seq.{take-append_seam, drop-append_seam, paste}
-use Rattle.std.specs.List.{remove, AllByRecursion as All}
+use Rattle.std.specs.List.{remove, AllByRecursion}
 use Rattle.std.proofs.lemmas.List.{append-nil, length-append, length-take-le, length-drop, take-append-drop, get_or_at, get_or-take, get_or-drop, take-take, take_more, drop_at, take_at, length-set, take_more_set, take_all, drop-take, take-set-le}
 use Rattle.std.proofs.lemmas.List.Edits.{take-paste, drop-paste, paste_more, length-remove}
 use Rattle.std.proofs.lemmas.Bool.{and_parts, and_from, leb-true, le-leb, cond-true, le-ltb, lt-ltb, eq-eqb}
@@ -19,13 +19,13 @@ laid_append (m ∷ a) b = ap (λ x. head (length m) ∷ x) (ap (λ x. m ++ x) (l
 head_length : (n : ℕ) → n ≤ 127 → head n % 256 ≡ n
 head_length n h = omega arith
 
-pub parsed_laid : (ms : List (List ℕ)) → All Message ms → parsed (length ms) (laid ms) ≡ ms
+pub parsed_laid : (ms : List (List ℕ)) → AllByRecursion Message ms → parsed (length ms) (laid ms) ≡ ms
 parsed_laid [] a = refl
 parsed_laid (m ∷ ms) a =
     let e : head (length m) % 256 ≡ length m = head_length (length m) a.0.1 in
     rw (e, take-append_seam m (laid ms), drop-append_seam m (laid ms)) (ap (λ x. m ∷ x) (parsed_laid ms a.1))
 
-pub sound_laid : (ms : List (List ℕ)) → All Message ms → sound (length ms) (laid ms) ≡ true
+pub sound_laid : (ms : List (List ℕ)) → AllByRecursion Message ms → sound (length ms) (laid ms) ≡ true
 sound_laid [] a = refl
 sound_laid (m ∷ ms) a =
     let e : head (length m) % 256 ≡ length m = head_length (length m) a.0.1 in
@@ -35,10 +35,10 @@ sound_laid (m ∷ ms) a =
     (and_from _ _ (sized_from (length m) a.0.0 a.0.1) (and_from _ _ (le-leb (length m) (length (m ++ laid ms)) l) (sound_laid ms a.1))))
 
 -- the row of messages is known by the words that it is laid as
-pub parsed_is : (n : ℕ) (ws : List ℕ) (ms : List (List ℕ)) → n ≡ length ms → ws ≡ laid ms → All Message ms → parsed n ws ≡ ms
+pub parsed_is : (n : ℕ) (ws : List ℕ) (ms : List (List ℕ)) → n ≡ length ms → ws ≡ laid ms → AllByRecursion Message ms → parsed n ws ≡ ms
 parsed_is n ws ms e f a = rw (e, f) (parsed_laid ms a)
 
-pub sound_is : (n : ℕ) (ws : List ℕ) (ms : List (List ℕ)) → n ≡ length ms → ws ≡ laid ms → All Message ms → sound n ws ≡ true
+pub sound_is : (n : ℕ) (ws : List ℕ) (ms : List (List ℕ)) → n ≡ length ms → ws ≡ laid ms → AllByRecursion Message ms → sound n ws ≡ true
 sound_is n ws ms e f a = rw (e, f) (sound_laid ms a)
 
 pub split_at : (ms : List (List ℕ)) (k : ℕ) → k < length ms → ms ≡ take k ms ++ (get_or ms k [] ∷ drop (suc k) ms)
@@ -51,17 +51,17 @@ pub count_laid : (ms : List (List ℕ)) → length ms ≤ length (laid ms)
 count_laid [] = omega arith
 count_laid (m ∷ ms) = let h = count_laid ms in simp length-append (omega arith)
 
-all_at : (P : List ℕ → Type 0) (xs : List (List ℕ)) (k : ℕ) (d : List ℕ) → k < length xs → All P xs → P (get_or xs k d)
+all_at : (P : List ℕ → Type 0) (xs : List (List ℕ)) (k : ℕ) (d : List ℕ) → k < length xs → AllByRecursion P xs → P (get_or xs k d)
 all_at P [] k d h a = absurd (omega arith)
 all_at P (x ∷ xs) zero d h a = a.0
 all_at P (x ∷ xs) (suc k) d h a = all_at P xs k d (omega arith) a.1
 
-all_take : (P : List ℕ → Type 0) (k : ℕ) (xs : List (List ℕ)) → All P xs → All P (take k xs)
+all_take : (P : List ℕ → Type 0) (k : ℕ) (xs : List (List ℕ)) → AllByRecursion P xs → AllByRecursion P (take k xs)
 all_take P zero xs a = tt
 all_take P (suc k) [] a = tt
 all_take P (suc k) (x ∷ xs) a = (a.0, all_take P k xs a.1)
 
-all_drop : (P : List ℕ → Type 0) (k : ℕ) (xs : List (List ℕ)) → All P xs → All P (drop k xs)
+all_drop : (P : List ℕ → Type 0) (k : ℕ) (xs : List (List ℕ)) → AllByRecursion P xs → AllByRecursion P (drop k xs)
 all_drop P zero xs a = a
 all_drop P (suc k) [] a = tt
 all_drop P (suc k) (x ∷ xs) a = all_drop P k xs a.1
@@ -197,7 +197,7 @@ module _ (ws : List ℕ) (used held : ℕ) (fit : used ≤ length ws) (ok : soun
       let f : laid (ms ++ (m ∷ [])) ≡ take used ws ++ (head (length m) ∷ m) = laid_append ms (m ∷ []) ∙ ap (λ x. x ++ laid (m ∷ [])) laid_is ∙ ap (λ x. take used ws ++ (head (length m) ∷ x)) (append-nil m) in
       ap (λ x. take x new) j ∙ a ∙ ap (λ x. x ++ take (length m) m) b ∙ ap (λ x. (take used ws ++ (head (length m) ∷ [])) ++ x) d ∙ append_assoc (take used ws) (head (length m) ∷ []) m ∙ sym f
 
-  pub put_all : (m : List ℕ) → 1 ≤ length m → length m ≤ 127 → All Message (parsed held (take used ws) ++ (m ∷ []))
+  pub put_all : (m : List ℕ) → 1 ≤ length m → length m ≤ 127 → AllByRecursion Message (parsed held (take used ws) ++ (m ∷ []))
   put_all m a b = all_append Message (parsed held (take used ws)) (m ∷ []) (sound_parsed held (take used ws) ok).2 ((a, b), tt)
 
   pub put_count : (m : List ℕ) → held + 1 ≡ length (parsed held (take used ws) ++ (m ∷ []))
@@ -211,7 +211,7 @@ module _ (ws : List ℕ) (used held : ℕ) (fit : used ≤ length ws) (ok : soun
         let le : p ≤ used = omega (arith, end_in k below, p-is) in
         sym (take-take p used ws le) ∙ ap (take p) (words_split k below) ∙ take_at (laid (take k ms)) _ p (sym p-is)
 
-    pub front_all : All Message (take k (parsed held (take used ws)))
+    pub front_all : AllByRecursion Message (take k (parsed held (take used ws)))
     front_all = all_take Message k (parsed held (take used ws)) (sound_parsed held (take used ws) ok).2
 
     pub front_count : k ≡ length (take k (parsed held (take used ws)))
@@ -239,7 +239,7 @@ module _ (ws : List ℕ) (used held : ℕ) (fit : used ≤ length ws) (ok : soun
         let b : take (used - (p + 1 + n)) (drop (p + 1 + n) ws) ≡ drop (p + 1 + n) (take used ws) = sym (drop-take (p + 1 + n) (used - (p + 1 + n)) ws) ∙ ap (λ x. drop (p + 1 + n) (take x ws)) u in
         ap (λ x. take x new) j ∙ a ∙ ap (λ x. take p ws ++ x) (b ∙ back_laid) ∙ ap (λ x. x ++ laid (drop (suc k) ms)) front_laid ∙ sym (laid_append (take k ms) (drop (suc k) ms))
 
-    pub removed_all : All Message (remove (parsed held (take used ws)) k)
+    pub removed_all : AllByRecursion Message (remove (parsed held (take used ws)) k)
     removed_all = all_append Message (take k (parsed held (take used ws))) (drop (suc k) (parsed held (take used ws))) front_all (all_drop Message (suc k) (parsed held (take used ws)) (sound_parsed held (take used ws) ok).2)
 
     pub removed_count : held - 1 ≡ length (remove (parsed held (take used ws)) k)

@@ -4,7 +4,7 @@
 --     Written bs held    bytes are the writing of the held messages that are read from them
 --     ImagesAccepted     every writing of messages is accepted with their number, and reads back
 use Rattle.std.specs.Prelude.{◌≡◌, ℕ, zero, suc, ◌/◌, ◌^◌, ◌<◌, ◌≤◌, List, [], ◌∷◌, ◌++◌, length, replicate, Ok}
-use Rattle.std.specs.List.{AllByRecursion as All}
+use Rattle.std.specs.List.{AllByRecursion}
 use Rattle.mailboxes.specs.Mailboxes.{Message}
 use Rattle.layouts.specs.Pages.{page_of, pages_of}
 use Rattle.layouts.specs.Mounts.{mount_check}
@@ -18,8 +18,8 @@ pub record Writable (n : ℕ) (ms : List (List ℕ)) : Type 0 where
   pub some : 1 ≤ n
   pub few : n ≤ 128
   pub room : length ms ≤ n
-  pub messages : All Message ms
-  pub words : All (All (λ w. w < 2 ^ 32)) ms
+  pub messages : AllByRecursion Message ms
+  pub words : AllByRecursion (AllByRecursion (λ w. w < 2 ^ 32)) ms
 
 pub record Written (bs : List ℕ) (held : ℕ) : Type 0 where
   pub image : bs ≡ image_of (length bs / 512) (pages_of held bs)

@@ -1,7 +1,7 @@
 -- Why what is read from sound pages are messages. Assumes nothing.
 use Rattle.std.specs.Prelude.{◌≡◌, ℕ, zero, suc, ◌+◌, ◌*◌, ◌≤◌, true, ◌&&◌, List, length, take, drop, ◌==◌, nat_lt, refl}
 use Rattle.std.proofs.Common.{ap, arith}
-use Rattle.std.specs.List.{AllByRecursion as All}
+use Rattle.std.specs.List.{AllByRecursion}
 use Rattle.std.proofs.lemmas.Bool.{and_parts, false≢true}
 use Rattle.words.specs.Words.{kind, formed}
 use Rattle.words.specs.Writes.{most}
@@ -26,7 +26,7 @@ full_message page e =
     let p = full_length page e in
     (omega arith, omega arith)
 
-pub sound_messages : (n held : ℕ) (bs : List ℕ) → pages_sound n held bs ≡ true → All Message (pages_of held bs)
+pub sound_messages : (n held : ℕ) (bs : List ℕ) → pages_sound n held bs ≡ true → AllByRecursion Message (pages_of held bs)
 sound_messages n zero bs e = tt
 sound_messages zero (suc held) bs e = absurd (false≢true e)
 sound_messages (suc n) (suc held) bs e =

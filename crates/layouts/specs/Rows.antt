@@ -8,7 +8,7 @@
 --     row_discard ms k ws   its words after a discard of message k
 use Rattle.std.specs.Prelude.{◌≡◌, ℕ, zero, suc, ◌+◌, ◌%◌, ◌≤◌, Bool, true, false, cond, ◌&&◌, List, [], ◌∷◌, ◌++◌, length, take, drop, ◌==◌, nat_le, nat_lt, refl}
 use Rattle.std.proofs.Common.{sym, ap, ◌∙◌, arith}
-use Rattle.std.specs.List.{AllByRecursion as All}
+use Rattle.std.specs.List.{AllByRecursion}
 use Rattle.std.proofs.lemmas.List.{length-take-le, take-append-drop}
 use Rattle.std.proofs.lemmas.Bool.{and_parts, and_from, leb-true, le-leb, eqb-true, false≢true}
 use Rattle.words.specs.Writes.{most, put}
@@ -54,7 +54,7 @@ sized_from n a b = and_from (nat_le 1 n) (nat_le n most) (le-leb 1 n a) (le-leb 
 pub row_sizes : (all : ℕ) (ms : List (List ℕ)) (n : ℕ) → row_takes all ms n ≡ true → (1 ≤ n) × (n ≤ most)
 row_sizes all ms n e = sized_true n (and_parts (sized n) (nat_le all 4096 && nat_le (length (laid ms) + n + 1) all) e).0
 
-pub sound_parsed : (n : ℕ) (ws : List ℕ) → sound n ws ≡ true → (laid (parsed n ws) ≡ ws) × (length (parsed n ws) ≡ n) × All Message (parsed n ws)
+pub sound_parsed : (n : ℕ) (ws : List ℕ) → sound n ws ≡ true → (laid (parsed n ws) ≡ ws) × (length (parsed n ws) ≡ n) × AllByRecursion Message (parsed n ws)
 sound_parsed zero [] e = (refl, refl, tt)
 sound_parsed zero (h ∷ ws) e = absurd (false≢true e)
 sound_parsed (suc n) [] e = absurd (false≢true e)

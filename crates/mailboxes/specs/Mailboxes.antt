@@ -11,7 +11,7 @@
 --     Kept r was is         where r is a refusal, what is is what was
 --     Lawful                what every mailbox keeps
 use Rattle.std.specs.Prelude.{◌≡◌, ℕ, ◌≤◌, min, Bool, true, cond, ◌&&◌, List, [], ◌∷◌, ◌++◌, length, Ok, Err, Result, nat_le, nat_lt, slice_index_or}
-use Rattle.std.specs.List.{remove, AllByRecursion as All}
+use Rattle.std.specs.List.{remove, AllByRecursion}
 use Rattle.words.specs.Writes.{most, put}
 
 abbrev pub Message : List ℕ → Type 0
@@ -47,5 +47,5 @@ Kept (Err e) was is = is ≡ was
 
 -- its messages have 1 to 127 words, and it takes none of another length
 pub record Lawful {M : Type 0} (waiting : M → List (List ℕ)) (takes : M → ℕ → Bool) : Type 0 where
-  pub messages : (m : M) → All Message (waiting m)
+  pub messages : (m : M) → AllByRecursion Message (waiting m)
   pub sizes : (m : M) (n : ℕ) → takes m n ≡ true → (1 ≤ n) × (n ≤ most)

@@ -1,6 +1,6 @@
 // The one form in which a command is printed, and what is said of a line that is not understood.
 ghost use Rattle.std.specs.Prelude.{Some};
-ghost use Rattle.scripts.specs.Shown.{kind_shown, store_shown, mailbox_shown, what_shown, shown as command-shown, expected_shown};
+ghost use Rattle.scripts.specs.Shown.{kind_shown, store_shown, mailbox_shown, what_shown, shown as command_shown, expected_shown};
 
 use crate::command::Command;
 use crate::expected::Expected;
@@ -61,7 +61,7 @@ impl fmt::Display for What {
 
 // Of a put the verb alone: its words stand elsewhere.
 impl fmt::Display for Command {
-    ghost output = { λ x. Some (command-shown x) };
+    ghost output = { λ x. Some (command_shown x) };
 
     fn fmt<W: fmt::Write>(&self, f: &mut fmt::Formatter<W>) -> fmt::Result {
         match self {

@@ -3,7 +3,7 @@ ghost use Rattle.std.specs.Prelude.{◌≡◌};
 ghost use Rattle.scripts.specs.Grammar.{store_by, part_of, mailbox_of, report_of, send_of, put_of, words_put, fetch_of, compare_of, asked, leaves, understood, words_after};
 ghost use Rattle.scripts.specs.Laws.{Ranged, PrintedBack};
 ghost use Rattle.scripts.specs.Readings.{Reads};
-ghost use Rattle.scripts.specs.Tokens.{tokens as tokens-of, left};
+ghost use Rattle.scripts.specs.Tokens.{tokens as tokens_of, left};
 
 use crate::command::Command;
 use crate::expected::Expected;
@@ -146,8 +146,8 @@ fn asked(verb: Verb, tokens: &mut Tokens, words: &mut [u32; 255]) -> Result<Comm
 // refused, those before it are there. What is printed of a command is understood as that command, but for a put, which is
 // printed without its words.
 pub fn understand(line: &[u8], words: &mut [u32; 255]) -> Result<Option<Command>, Expected>
-    ensures answer { result ≡ understood (tokens-of line.now) }
-    ensures words { words.new ≡ words_after (tokens-of line.now) words.old }
+    ensures answer { result ≡ understood (tokens_of line.now) }
+    ensures words { words.new ≡ words_after (tokens_of line.now) words.old }
     ensures range { Ranged result }
     ensures law { PrintedBack }
 {

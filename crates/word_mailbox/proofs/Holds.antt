@@ -1,7 +1,7 @@
 -- What the invariant of a word store says of its messages and of their places. Assumes nothing.
 use Rattle.std.proofs.Common.{◌≡◌, ℕ, ◌+◌, ◌-◌, ◌%◌, ◌<◌, ◌≤◌, true, leb, List, [], ◌∷◌, ◌++◌, length, get_or, take, drop, set, sym, ap, ◌∙◌, arith}
 use lib.Seq.{paste}
-use Rattle.std.specs.List.{remove, AllByRecursion as All}
+use Rattle.std.specs.List.{remove, AllByRecursion}
 use Rattle.std.proofs.lemmas.Bool.{le-leb}
 use Rattle.std.proofs.lemmas.List.{length-set, length-drop}
 use Rattle.std.proofs.lemmas.List.Edits.{length-paste}
@@ -64,7 +64,7 @@ module _ (t : WordMailbox) where
     put_laid : take (t.used + length m + 1) new ≡ laid (waiting_of t ++ (m ∷ []))
     put_laid = Rows.put_laid (memory_of t) t.used t.held t.ok.0 t.ok.2 m new (takes_room (length m) fits).1 is
 
-    put_all : All Message (waiting_of t ++ (m ∷ []))
+    put_all : AllByRecursion Message (waiting_of t ++ (m ∷ []))
     put_all = Rows.put_all (memory_of t) t.used t.held t.ok.0 t.ok.2 m short.0 short.1
 
     put_count : t.held + 1 ≡ length (waiting_of t ++ (m ∷ []))
@@ -101,7 +101,7 @@ module _ (t : WordMailbox) where
       close_laid : take (t.used - (n + 1)) new ≡ laid (remove (waiting_of t) k)
       close_laid = Rows.close_laid (memory_of t) t.used t.held t.ok.0 t.ok.2 k below p n p-is n-is new is
 
-      close_all : All Message (remove (waiting_of t) k)
+      close_all : AllByRecursion Message (remove (waiting_of t) k)
       close_all = Rows.removed_all (memory_of t) t.used t.held t.ok.0 t.ok.2 k below p n p-is n-is
 
       close_count : t.held - 1 ≡ length (remove (waiting_of t) k)
