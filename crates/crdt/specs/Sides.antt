@@ -1,4 +1,5 @@
--- The words of a pair are read side by side. Over the words and the readings of its sides. Assumes nothing.
+-- A pair keeps the laws of its sides: its join is theirs side by side, and its words are read side by side. Over the joins, the words and the
+-- readings of its sides. Assumes nothing.
 use Rattle.std.specs.Prelude.{◌≡◌, ℕ, true, false, List, ◌++◌, is_err, Ok, Err, Result, refl}
 use Rattle.std.proofs.Common.{append_assoc, sym, ap, ◌∙◌, arith}
 use Rattle.std.proofs.lemmas.Bool.{false≢true}

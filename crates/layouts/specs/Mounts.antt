@@ -2,13 +2,13 @@
 --     all_zero bs            every byte is zero
 --     well page              a page head's zero bits are zero, its length is that of a message, and what follows the words is zero
 --     full page              a page of a message
---     page_check place seen page   what a page at a place is, where seen is whether a zero page head came before it:
+--     page_check place seen page  what a page at a place is, where seen is whether a zero page head came before it:
 --                                  a page of a message, an empty page, or refused as 10 or 11
 --     mount_pages n place held seen bs  what n pages from a place on are, where held messages came before them
 --     paged n                n bytes are 1 to 128 whole pages
 --     mount_check bs         what the check of bytes answers: how many messages wait in them, or what is wrong
---     ForeignPages          a page that begins with a page head of any message in the other byte order is refused as 10, wherever it stands
---     ForeignRefused bs r   where bytes begin so, r is 10 at byte 0
+--     ForeignPages           a page that begins with a page head of any message in the other byte order is refused as 10, wherever it stands
+--     ForeignRefused bs r    where bytes begin so, r is 10 at byte 0
 --     mounted_pages r n      how many pages may be used of n bytes, where their check answered r
 --     wiped bs               what a wipe leaves of bytes
 --     pages_sound n held bs  n pages: held of messages, and then zero bytes

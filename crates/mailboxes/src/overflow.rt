@@ -61,7 +61,7 @@ impl<A: Mailbox, B: Mailbox> Mailbox for Overflow<A, B> {
         ensures refused { Kept result self.old self.new }
         ensures first { A.Mailbox.waiting self.new.first ≡ put_leaves (goes_first A.Mailbox B.Mailbox self.old (length message.now)) (A.Mailbox.waiting self.old.first) message.now }
         ensures second { B.Mailbox.waiting self.new.second ≡ put_leaves (goes_second A.Mailbox B.Mailbox self.old (length message.now)) (B.Mailbox.waiting self.old.second) message.now }
-        ensures others { ((goes_first A.Mailbox B.Mailbox self.old (length message.now) ≡ true → self.new.second ≡ self.old.second)) × ((goes_first A.Mailbox B.Mailbox self.old (length message.now) ≡ false → self.new.first ≡ self.old.first)) }
+        ensures others { (goes_first A.Mailbox B.Mailbox self.old (length message.now) ≡ true → self.new.second ≡ self.old.second) × (goes_first A.Mailbox B.Mailbox self.old (length message.now) ≡ false → self.new.first ≡ self.old.first) }
     {
         if self.second.count() == 0 && self.first.fits(message.len()) {
             self.first.put(message)
@@ -88,7 +88,7 @@ impl<A: Mailbox, B: Mailbox> Mailbox for Overflow<A, B> {
         ensures answer { numbered result ≡ discard_answer (waiting_of A.Mailbox B.Mailbox self.old) k }
         ensures after { waiting_of A.Mailbox B.Mailbox self.new ≡ discard_leaves (waiting_of A.Mailbox B.Mailbox self.old) k }
         ensures refused { Kept result self.old self.new }
-        ensures others { ((k < counted (A.Mailbox.waiting self.old.first) → self.new.second ≡ self.old.second)) × ((counted (A.Mailbox.waiting self.old.first) ≤ k → self.new.first ≡ self.old.first)) }
+        ensures others { (k < counted (A.Mailbox.waiting self.old.first) → self.new.second ≡ self.old.second) × (counted (A.Mailbox.waiting self.old.first) ≤ k → self.new.first ≡ self.old.first) }
     {
         let here = self.first.count() as usize;
         if k < here {

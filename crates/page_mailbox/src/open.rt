@@ -130,11 +130,11 @@ impl<'a> PageMailbox<'a> {
     // Lets it go, as when power is lost, and mounts the same bytes. A mailbox with pages in use holds the same messages again.
     pub fn remount(self) -> PageMailbox<'a>
         ensures memory { memory_of result ≡ memory_of self.entry }
-        ensures pages { (self.entry.pages ≢ 0) → result.pages ≡ self.entry.pages }
-        ensures waiting { (self.entry.pages ≢ 0) → waiting_of result ≡ waiting_of self.entry }
+        ensures pages { self.entry.pages ≢ 0 → result.pages ≡ self.entry.pages }
+        ensures waiting { self.entry.pages ≢ 0 → waiting_of result ≡ waiting_of self.entry }
         ensures mounted_pages { result.pages ≡ mounted_pages (mount_check (memory_of self.entry)) (length (memory_of self.entry)) }
         ensures mounted_waiting { waiting_of result ≡ pages_of (value_or 0 (mount_check (memory_of self.entry))) (memory_of self.entry) }
-        ensures accepted { (self.entry.pages ≢ 0) → mount_check (memory_of self.entry) ≡ Ok (length (waiting_of self.entry)) }
+        ensures accepted { self.entry.pages ≢ 0 → mount_check (memory_of self.entry) ≡ Ok (length (waiting_of self.entry)) }
         ensures lender { result.bytes.ghost_name ≡ self.entry.bytes.ghost_name }
     {
         let PageMailbox { bytes, .. } = self;

@@ -65,7 +65,7 @@ bit_same a =
     let one : 1 * 2 ^ a ≡ 2 ^ a = omega arith in
     eq-eqb (2 ^ a / 2 ^ a % 2) 1 (ap (λ n. n / 2 ^ a % 2) (sym one) ∙ ap (λ n. n % 2) (shl-shr 1 a))
 
-pub bit_other : (a b : ℕ) → (a ≢ b) → bit (2 ^ a) b ≡ false
+pub bit_other : (a b : ℕ) → a ≢ b → bit (2 ^ a) b ≡ false
 bit_other zero zero ne = absurd (ne refl)
 bit_other zero (suc b) ne = bit_more 1 b ∙ bit_zero b
 bit_other (suc a) zero ne =

@@ -5,7 +5,7 @@ ghost use Rattle.registers.specs.Values.{Level, level_of, higher, level_reported
 ghost use Rattle.words.specs.Readings.{read};
 ghost use Rattle.words.specs.Words;
 ghost use Rattle.words.specs.Words.{word_of};
-ghost use Rattle.registers.specs.MaxRegisterCrdtLemmas.{read_one, by_kind};
+ghost use Rattle.registers.specs.LevelReads.{read_one, by_kind};
 
 use crdt::kind::Crdt;
 use words::fault::Fault;

@@ -7,7 +7,7 @@ use Rattle.crdt.specs.declared.kind.Crdt.{Ghosts}
 use Rattle.histories.specs.Clusters.{Station, fresh}
 
 abbrev pub Others : {X : Type 0} → ℕ → List X → List X → Type 0
-Others {X} s was is = (k : ℕ) (d : X) → (k ≢ s) → slice_index_or is k d ≡ slice_index_or was k d
+Others {X} s was is = (k : ℕ) (d : X) → k ≢ s → slice_index_or is k d ≡ slice_index_or was k d
 
 abbrev pub init_answer : ℕ → Result (Unit {0}) ℕ
 init_answer n = cond (n == 0) (Err 1) (cond (nat_lt 16 n) (Err 1) (Ok tt))

@@ -4,7 +4,7 @@
 --     Clock              the value of a clock, and clock_written its words
 --     packed K m         the words of a message whose record is of kind K
 --     Sendable K m       which messages there are: from a station, over a span that rises, of at most 127 words
--- The forms that end in -by are over the words of a clock and of a record.
+-- The forms that end in _by or By are over the words of a clock and of a record.
 use Rattle.std.specs.Prelude.{ℕ, suc, ◌+◌, ◌*◌, ◌^◌, ◌<◌, ◌≤◌, List, ◌∷◌, ◌++◌, length}
 use Rattle.words.specs.Words.{word_of}
 use Rattle.words.specs.Writes.{most}

@@ -6,7 +6,7 @@
 --     fault_in layer ws n more    fault n in the words ws, found by a layer where the words more were left
 --     unpacked K ws               the message that words say, none left over; or the fault
 --     OneToOne K                  what is packed unpacks as itself, and what unpacks is packed
--- The forms that end in -by are over the words of a clock and of a record.
+-- The forms that end in _by or By are over the words of a clock and of a record.
 use Rattle.std.specs.Prelude.{◌≡◌, ℕ, suc, ◌-◌, ◌%◌, ◌^◌, Bool, cond, ◌&&◌, ◌||◌, List, [], ◌∷◌, length, drop, Ok, Err, Result, ◌==◌, nat_le, nat_lt}
 use Rattle.words.specs.declared.fault.Layer.{Layer}
 use Rattle.words.specs.declared.fault.Layer.TheVariants as layer
