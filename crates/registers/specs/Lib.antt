@@ -3,4 +3,4 @@ pub mod Bits
 pub mod Members
 pub mod Sets
 pub mod Packs
-pub mod LevelReads
+pub mod LevelLaws

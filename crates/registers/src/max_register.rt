@@ -1,11 +1,7 @@
 // One value under the larger of two.
-ghost use Rattle.std.specs.Prelude.{◌≡◌, ℕ, ◌^◌, [], ◌∷◌, ◌==◌, refl};
-ghost use Rattle.std.proofs.Common.{ap, ◌∙◌, arith, ltb→lt};
-ghost use Rattle.registers.specs.Values.{Level, level_of, higher, level_reported, level_written, level_reading, same_level};
-ghost use Rattle.words.specs.Readings.{read};
-ghost use Rattle.words.specs.Words;
-ghost use Rattle.words.specs.Words.{word_of};
-ghost use Rattle.registers.specs.LevelReads.{read_one, by_kind};
+ghost use Rattle.std.specs.Prelude.{◌≡◌};
+ghost use Rattle.registers.specs.Values.{Level, level_of, higher, level_reported, level_written, level_reading};
+ghost use Rattle.registers.specs.LevelLaws.{higher_assoc, higher_comm, higher_idem, higher_neutral, level_reads, level_exact};
 
 use crdt::kind::Crdt;
 use words::fault::Fault;
@@ -52,25 +48,17 @@ impl Crdt for MaxRegister {
 
     ghost reading = { level_reading };
 
-    ghost assoc = { λ a b c. same_level _ _ (omega arith) };
+    ghost assoc = { higher_assoc };
 
-    ghost comm = { λ a b. same_level _ _ (omega arith) };
+    ghost comm = { higher_comm };
 
-    ghost idem = { λ a. same_level _ _ (omega arith) };
+    ghost idem = { higher_idem };
 
-    ghost neutral = { λ a. same_level _ _ (omega arith) };
+    ghost neutral = { higher_neutral };
 
-    ghost reads = { λ v ws.
-        let h = ltb→lt v.level (2 ^ 28) v.low in
-        let w = word_of 8 v.level in
-        let is : Words.kind w ≡ 8 = omega arith in
-        let same : level_of w ≡ v = same_level _ _ (omega arith) in
-        read_one w ws is ∙ ap (λ x. read x ws) same };
+    ghost reads = { level_reads };
 
-    ghost exact = { elim [
-      | [] ↦ λ v more h. let z : ◌≡◌ {A = ℕ} 0 1 = cc in absurd (omega arith)
-      | w ∷ ws ↦ λ v more h. by_kind w ws v more (Words.kind w == 8) refl h
-    ] };
+    ghost exact = { level_exact };
 
     fn bottom() -> MaxRegister {
         MaxRegister { stored: 0 }
