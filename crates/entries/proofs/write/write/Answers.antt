@@ -8,6 +8,9 @@ use Rattle.entries.proofs.Turns.{moved, Writing, writing_start, writing_next, wr
 use Rattle.entries.proofs.write.write.Goals as goal
 use Rattle.entries.proofs.write.write.Goals.{then-number-ne0, else-number-ne0}
 
+pub loop-i-init : goal.loop-i-init
+loop-i-init c = writing_start _ _ _ _ _ (let s = c.size-all.ensures.value in omega arith)
+
 pub returns-then-saturating_sub-all : goal.returns-then-saturating_sub-all
 returns-then-saturating_sub-all c =
     let ws = row_written (entry_number c.args.kind) (row_of (top_of c.args.kind) c.args.row.now) in
@@ -15,9 +18,6 @@ returns-then-saturating_sub-all c =
     let few : length ws ≤ 127 = (let b = c.size-all.ensures.bound in omega arith) in
     let short : length c.args.words.now - c.args.place < length ws = omega arith in
     record { answer = sym (answer_short _ _ _ few short); words = sym (leaves_short _ _ _ few short) }
-
-pub loop-i-init : goal.loop-i-init
-loop-i-init c = writing_start _ _ _ _ _ (let s = c.size-all.ensures.value in omega arith)
 
 pub bounds-words-next : goal.bounds-words-next
 bounds-words-next c = writing_next _ _ _ _ _ _ _ _ _ c.loop-i.invariant

@@ -27,6 +27,30 @@ returns-in-Err g c =
       words = sym (ap (λ x. fetch_leaves x ws k old) e);
     }
 
+pub returns-in-Ok-receive : goal.returns-in-Ok-receive
+returns-in-Ok-receive g c =
+    let K = g.C.Crdt in
+    let ws = g.M.Mailbox.waiting c.args.mailbox.now in
+    let s = c.args.s in
+    let k = c.args.k in
+    let old = c.args.words.now in
+    let all = c.args.stations.now in
+    let d = c.index-stations-s.result in
+    let n = c.in-Ok-read.n in
+    let here = c.in-Ok.ensures.here in
+    let part = take (n - 0) c.read.new.words in
+    let r = was_read K ws s k old (station_of K d) n c.in-Ok-read.ensures.answer in
+    let is = at_front old (get_or ws k []) c.read.new.words n r.long (c.read.ensures.words ∙ r.leaves) in
+    let o = fetch_is K ws s k old all d n part here c.in-Ok-read.ensures.answer is in
+    let told-so = c.in-Ok-receive.ensures.answer ∙ sym (ap bare o) in
+    record {
+      answer = told_ok _ c.in-Ok-receive.field-0 s k n (length (get_or ws k [])) told-so r.long;
+      stations = changed_one (station_of K) all s d c.receive.new.station _ (c.receive.ensures.after ∙ sym (ap (value_or (station_of K (get_or all s d))) o));
+      others = others_one all s c.receive.new.station;
+      refused = tt;
+      words = c.read.ensures.words ∙ sym (ap (λ x. fetch_leaves x ws k old) (found_here K all s d here.few here.within (here.own d)));
+    }
+
 pub returns-in-Err-read : goal.returns-in-Err-read
 returns-in-Err-read g c =
     let K = g.C.Crdt in
@@ -59,30 +83,6 @@ slice_bounds-receive-end g c =
     let f = front_within old (get_or ws c.args.k []) in
     let low : c.in-Ok-read.n ≤ length c.read.new.words = omega arith in
     low
-
-pub returns-in-Ok-receive : goal.returns-in-Ok-receive
-returns-in-Ok-receive g c =
-    let K = g.C.Crdt in
-    let ws = g.M.Mailbox.waiting c.args.mailbox.now in
-    let s = c.args.s in
-    let k = c.args.k in
-    let old = c.args.words.now in
-    let all = c.args.stations.now in
-    let d = c.index-stations-s.result in
-    let n = c.in-Ok-read.n in
-    let here = c.in-Ok.ensures.here in
-    let part = take (n - 0) c.read.new.words in
-    let r = was_read K ws s k old (station_of K d) n c.in-Ok-read.ensures.answer in
-    let is = at_front old (get_or ws k []) c.read.new.words n r.long (c.read.ensures.words ∙ r.leaves) in
-    let o = fetch_is K ws s k old all d n part here c.in-Ok-read.ensures.answer is in
-    let told-so = c.in-Ok-receive.ensures.answer ∙ sym (ap bare o) in
-    record {
-      answer = told_ok _ c.in-Ok-receive.field-0 s k n (length (get_or ws k [])) told-so r.long;
-      stations = changed_one (station_of K) all s d c.receive.new.station _ (c.receive.ensures.after ∙ sym (ap (value_or (station_of K (get_or all s d))) o));
-      others = others_one all s c.receive.new.station;
-      refused = tt;
-      words = c.read.ensures.words ∙ sym (ap (λ x. fetch_leaves x ws k old) (found_here K all s d here.few here.within (here.own d)));
-    }
 
 pub returns-in-Err-receive : goal.returns-in-Err-receive
 returns-in-Err-receive g c =

@@ -28,7 +28,7 @@ returns g c =
     let st = c.args.station.now in
     let u = unpack_ok c.in_ok-header.header (unpacked K c.args.words.now) (clock_of c.unpack.new.clock.counts) (K.value c.unpack.new.record) K.least c.in_ok-header.ensures.answer c.unpack.ensures.clock c.unpack.ensures.value in
     record {
-      answer = c.hear.ensures.answer ∙ sym (ap (λ x. bare (hearing_opened K st.number (station_of K st) x)) u);
       after = c.hear.ensures.after ∙ sym (ap (λ x. value_or (station_of K st) (hearing_opened K st.number (station_of K st) x)) u);
+      answer = c.hear.ensures.answer ∙ sym (ap (λ x. bare (hearing_opened K st.number (station_of K st) x)) u);
       refused = c.hear.ensures.refused;
     }

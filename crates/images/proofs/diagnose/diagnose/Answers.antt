@@ -15,7 +15,7 @@ pub explain-requires : goal.explain-requires
 explain-requires c =
     let bs = c.args.bytes.now in
     let p = refused bs (told_fault c.in-Err.fault) (sym c.in-Err.ensures.answer) (λ n. c.in_default.not-Memory (memory_number c.in-Err.fault.refusal n)) in
-    record { page = p.1.0; size = (paged_parts (length bs) p.0).1 }
+    record { page = omega (arith, p.1.0); size = (paged_parts (length bs) p.0).1 }
 
 pub returns-in-Ok : goal.returns-in-Ok
 returns-in-Ok c =

@@ -29,7 +29,8 @@ slice_bounds-result-count c =
     let start : Reader = record { words = c.args.words; place = 0; layer = layer.Message } in
     let q = header_ok start (opening ws) _ c.in_ok-header.ensures.answer in
     let at : c.read_header.new.reader.place ≡ 0 + length ws - length q.1 = ap (λ (r : Reader). r.place) (c.read_header.ensures.reader ∙ ap (λ x. before start (rest x)) q.2) in
-    end_low ws q.0 q.1 q.2 c.read_header.new.reader.place (omega arith)
+    let low : 1 ≤ c.read_header.new.reader.place = end_low ws q.0 q.1 q.2 c.read_header.new.reader.place (omega arith) in
+    omega (arith, low)
 
 pub slice_bounds-result-start : goal.slice_bounds-result-start
 slice_bounds-result-start c =

@@ -9,24 +9,6 @@ use Rattle.wire.proofs.Laws.{both_ways}
 use Rattle.wire.proofs.Packs.{answered, leaves_headed, pack_on, pack_refused, pack_fits, pack_back}
 use Rattle.messages.proofs.pack.pack_full.Goals as goal
 
-pub returns-in_err-words : goal.returns-in_err-words
-returns-in_err-words g c =
-    let k = g.C.Crdt in
-    let v = k.value c.args.record.now in
-    let time = clock_of c.args.clock.now.counts in
-    let a = clock_written time in
-    let b = k.written v in
-    let n = 1 + c.size.result + c.size-2.result in
-    let all = length-append a b in
-    let same : min n 128 ≡ min (suc (length (a ++ b))) 128 = omega (arith, c.size.ensures, c.size-2.ensures) in
-    let p = err_from_is_err_and c.from_residual.result c.from_residual.ensures.1 in
-    let q = pack_refused k (full c.args.sender time v) c.args.words.now 1 n _ same c.in_err-words.ensures in
-    record {
-      answer = ap numbered (p.1 ∙ ap Err p.2) ∙ q.0;
-      words = q.1;
-      back = MatchResult-from_err _ _ _ c.from_residual.ensures.0 (λ _. tt);
-    }
-
 pub returns : goal.returns
 returns g c =
     let k = g.C.Crdt in
@@ -58,4 +40,22 @@ returns g c =
       answer = answer;
       words = words;
       back = pack_back k m (both_ways k g.met.C.Crdt.reads g.met.C.Crdt.exact) c.write-2.result old c.write-2.new.words tt answer words;
+    }
+
+pub returns-in_err-words : goal.returns-in_err-words
+returns-in_err-words g c =
+    let k = g.C.Crdt in
+    let v = k.value c.args.record.now in
+    let time = clock_of c.args.clock.now.counts in
+    let a = clock_written time in
+    let b = k.written v in
+    let n = 1 + c.size.result + c.size-2.result in
+    let all = length-append a b in
+    let same : min n 128 ≡ min (suc (length (a ++ b))) 128 = omega (arith, c.size.ensures, c.size-2.ensures) in
+    let p = err_from_is_err_and c.from_residual.result c.from_residual.ensures.1 in
+    let q = pack_refused k (full c.args.sender time v) c.args.words.now 1 n _ same c.in_err-words.ensures in
+    record {
+      answer = ap numbered (p.1 ∙ ap Err p.2) ∙ q.0;
+      words = q.1;
+      back = MatchResult-from_err _ _ _ c.from_residual.ensures.0 (λ _. tt);
     }

@@ -1,4 +1,4 @@
-use Rattle.std.proofs.Common.{◌≡◌, ◌-◌, length, Ok, Err, sym, refl, ap, ◌∙◌}
+use Rattle.std.proofs.Common.{◌≡◌, ◌-◌, length, Ok, Err, sym, refl, ap, ◌∙◌, arith}
 use Rattle.std.proofs.lemmas.Result.{err_from_is_err_and, MatchResult-from_err}
 use Rattle.words.specs.declared.fault.Layer.TheVariants as layer
 use Rattle.words.specs.declared.reader.Reader.{Reader}
@@ -54,7 +54,7 @@ returns-then-end-words g c =
     let s = for_record c.read_header.new.reader in
     let h = stands_at_record start c.read_header.new.reader refl _ c.in_ok-header.ensures.answer c.read_header.ensures.reader in
     let l = load_ok s (k.reading (left s)) _ c.in-Ok.ensures.answer in
-    let u = record_left ws k.reading h.message h.more h.opens l.0 l.1 (ap k.reading (sym h.here.sees) ∙ l.2) (λ (e : length ws - length l.1 ≡ length ws). c.if-end-words.true (l.3 ∙ h.place_after l.1 ∙ e)) in
+    let u = record_left ws k.reading h.message h.more h.opens l.0 l.1 (ap k.reading (sym h.here.sees) ∙ l.2) (λ (e : length ws - length l.1 ≡ length ws). let p : c.in-Ok.end ≡ length ws = l.3 ∙ h.place_after l.1 ∙ e in omega (arith, c.if-end-words.true, p)) in
     record {
       answer = sym (ap unpack_answer u);
       clock = c.bottom-then-end-words.ensures ∙ sym (ap clock_unpacked u);
@@ -73,7 +73,7 @@ returns g c =
     let m = h.message in
     let l = load_ok s (k.reading (left s)) _ c.in-Ok.ensures.answer in
     let v = l.0 in
-    let u = record_read ws k.reading m h.more h.opens v l.1 (ap k.reading (sym h.here.sees) ∙ l.2) (sym (l.3 ∙ h.place_after l.1) ∙ c.if-end-words.false) in
+    let u = record_read ws k.reading m h.more h.opens v l.1 (ap k.reading (sym h.here.sees) ∙ l.2) (let p : c.in-Ok.end ≡ length ws - length l.1 = l.3 ∙ h.place_after l.1 in omega (arith, c.if-end-words.false, p)) in
     let laws = both_ways k g.met.C.Crdt.reads g.met.C.Crdt.exact in
     let clock = c.read_header.ensures.clock ∙ ap clock_opened h.opens in
     let value = c.load.ensures.after ∙ ap (read_or k.least) l.2 in

@@ -1,7 +1,10 @@
-use Rattle.std.proofs.Common.{◌/◌, length, sym, ap, ◌∙◌}
+use Rattle.std.proofs.Common.{◌/◌, length, sym, ap, ◌∙◌, rules}
 use Rattle.layouts.specs.Mounts.{pages_sound, whole}
 use Rattle.layouts.proofs.Mounts.{sound_zeros, whole_from}
 use Rattle.page_mailbox.proofs.PageMailbox.wipe.Goals as goal
+
+pub returns-clause-pages : goal.returns-clause-pages
+returns-clause-pages c = search rules
 
 pub invariant_of-result-2 : goal.invariant_of-result-2
 invariant_of-result-2 c =

@@ -1,4 +1,4 @@
-use Rattle.std.proofs.Common.{sym, ap, ◌∙◌, ⊎_elim}
+use Rattle.std.proofs.Common.{sym, ap, ◌∙◌, ⊎_elim, arith}
 use Rattle.std.proofs.lemmas.List.{get_or_default}
 use Rattle.words.specs.Refusals.{bare}
 use Rattle.stations.proofs.Tables.{found_many, found_past, found_other, found_here}
@@ -6,7 +6,7 @@ use Rattle.stations.proofs.table.find.Goals as goal
 
 pub returns-then-stations-gt16 : goal.returns-then-stations-gt16
 returns-then-stations-gt16 g c = record {
-  answer = sym (ap bare (⊎_elim (λ many. found_many g.C.Crdt c.args.stations.now c.args.s many) (λ h. found_past g.C.Crdt c.args.stations.now c.args.s h.0 h.1) c.then-stations-gt16.either));
+  answer = sym (ap bare (⊎_elim (λ many. found_many g.C.Crdt c.args.stations.now c.args.s many) (λ h. found_past g.C.Crdt c.args.stations.now c.args.s h.0 (omega (arith, h.1))) c.then-stations-gt16.either));
   here = tt;
 }
 

@@ -20,7 +20,7 @@ returns-then-size-reader c =
     let word = c.in-Some.ensures in
     let long : length r.words.now - r.place ≡ suc (length more) = sym (length-drop r.place r.words.now) ∙ ap length word in
     let is = either_head w c.is-full.result c.is-delta.result c.is-full.ensures c.is-delta.ensures c.else-not-full.either in
-    let e = head_false w more is (sym c.if-not-is_well_formed.ensures) (λ (a : w % 2 ^ 8 ≡ suc (length more)) (b : 2 ≤ w % 2 ^ 8) (d : w % 2 ^ 8 ≤ 127). ⊎_elim (λ p. p (a ∙ sym long)) (⊎_elim (λ p. let h = p.1 in omega arith) (λ p. let h = p.2 in omega arith)) c.then-size-reader.either) in
+    let e = head_false w more is (sym c.if-not-is_well_formed.ensures) (λ (a : w % 2 ^ 8 ≡ suc (length more)) (b : 2 ≤ w % 2 ^ 8) (d : w % 2 ^ 8 ≤ 127). ⊎_elim (λ p. p (omega arith)) (⊎_elim (λ p. let h = p.1 in omega arith) (λ p. let h = p.2 in omega arith)) c.then-size-reader.either) in
     ap Err c.fault-then-size-reader.ensures ∙ sym (ap (λ xs. found_at r (head_found xs)) word ∙ ap (found_at r) e)
 
 pub returns : goal.returns

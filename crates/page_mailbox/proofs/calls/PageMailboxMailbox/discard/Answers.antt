@@ -13,10 +13,7 @@ returns-then-k-self c =
 pub close-requires : goal.close-requires
 close-requires c =
     let t = c.args.self.now in
-    record { pages = refl; held = refl; below = c.if-k-self.false; room = omega (arith, room t, held_few t) }
-
-pub invariant_of-self-2 : goal.invariant_of-self-2
-invariant_of-self-2 c = record { ok = close_ok c.args.self.now c.args.k c.close.new.self.bytes.now c.if-k-self.false c.close.ensures.memory }
+    record { pages = refl; held = refl; below = omega (arith, c.if-k-self.false); room = omega (arith, room t, held_few t) }
 
 pub returns : goal.returns
 returns c =
@@ -32,3 +29,6 @@ returns c =
       memory = close_memory t k new c.if-k-self.false c.close.ensures.memory;
       lender = c.close.ensures.lender;
     }
+
+pub invariant_of-self-2 : goal.invariant_of-self-2
+invariant_of-self-2 c = record { ok = close_ok c.args.self.now c.args.k c.close.new.self.bytes.now c.if-k-self.false c.close.ensures.memory }

@@ -24,6 +24,17 @@ overflow_add-place c = omega (arith, room c.args.self.now, held_few c.args.self.
 pub slice_bounds-unpack-end : goal.slice_bounds-unpack-end
 slice_bounds-unpack-end c = omega (arith, room c.args.self.now, held_few c.args.self.now)
 
+pub returns : goal.returns
+returns c =
+    let t = c.args.self.now in
+    let k = c.args.k in
+    let ms = waiting_of t in
+    let old = c.args.words.now in
+    let e : 512 * k + 512 - 512 * k ≡ 512 = omega arith in
+    let g : page_message (take (512 * k + 512 - 512 * k) (drop (512 * k) (memory_of t))) ≡ get_or ms k [] = ap (λ x. page_message (take x (drop (512 * k) (memory_of t)))) e ∙ sym (page_at t.held k (memory_of t) c.if-k-self.false) in
+    let r = read_there ms k old c.if-words-lt127.false c.unpack-n.result _ (omega (arith, held_is t, c.if-k-self.false)) (c.unpack-n.ensures.size ∙ ap length g) (c.unpack-n.ensures.words ∙ ap (put old 0) g) in
+    record { answer = r.0; words = r.1 }
+
 pub unpack-n-requires : goal.unpack-n-requires
 unpack-n-requires c =
     let t = c.args.self.now in
@@ -36,14 +47,3 @@ unpack-n-requires c =
       full = ap full page ∙ full_at t k c.if-k-self.false;
       room = c.if-words-lt127.false;
     }
-
-pub returns : goal.returns
-returns c =
-    let t = c.args.self.now in
-    let k = c.args.k in
-    let ms = waiting_of t in
-    let old = c.args.words.now in
-    let e : 512 * k + 512 - 512 * k ≡ 512 = omega arith in
-    let g : page_message (take (512 * k + 512 - 512 * k) (drop (512 * k) (memory_of t))) ≡ get_or ms k [] = ap (λ x. page_message (take x (drop (512 * k) (memory_of t)))) e ∙ sym (page_at t.held k (memory_of t) c.if-k-self.false) in
-    let r = read_there ms k old c.if-words-lt127.false c.unpack-n.result _ (omega (arith, held_is t, c.if-k-self.false)) (c.unpack-n.ensures.size ∙ ap length g) (c.unpack-n.ensures.words ∙ ap (put old 0) g) in
-    record { answer = r.0; words = r.1 }

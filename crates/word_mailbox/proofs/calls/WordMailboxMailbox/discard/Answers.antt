@@ -62,9 +62,9 @@ returns c =
     let new = c.loop-i.self.words.now in
     let r = discard_there (waiting_of t) k _ (omega (arith, held_is t, c.if-k-self.false)) (close_waiting t k c.if-k-self.false p s pe se new (moved (goal.at.returns c).After-loop-i)) in
     record {
+      memory = close_memory t k c.if-k-self.false p s pe se new (moved (goal.at.returns c).After-loop-i);
       answer = r.0;
       after = r.1;
       refused = tt;
-      memory = close_memory t k c.if-k-self.false p s pe se new (moved (goal.at.returns c).After-loop-i);
       lender = c.loop-i.invariant.3;
     }
