@@ -1,6 +1,10 @@
 // Why a call refuses. Each refusal has a fixed number, which no later edition changes.
-ghost use Rattle.std.specs.Prelude.{◌≡◌};
+ghost use Rattle.std.specs.Prelude.{◌≡◌, Some};
 ghost use Rattle.words.specs.Refusals.{number_of};
+ghost use Rattle.words.specs.Shown.{meaning, refusal_shown};
+
+use std::error::Error;
+use std::fmt;
 
 #[derive(Clone, Copy, PartialEq, Eq, Debug)]
 pub enum Refusal {
@@ -45,4 +49,40 @@ impl Refusal {
     {
         self as u32
     }
+
+    // What it means, in a few words.
+    pub fn meaning(self) -> &'static str
+        ensures { result.now ≡ meaning self }
+    {
+        match self {
+            Refusal::Station => "no such station",
+            Refusal::Range => "out of range",
+            Refusal::Limit => "past its limit",
+            Refusal::Spent => "all reports made",
+            Refusal::Nothing => "nothing to send",
+            Refusal::Room => "too few words",
+            Refusal::Long => "too long",
+            Refusal::Full => "does not fit",
+            Refusal::Absent => "no such message",
+            Refusal::Kind => "wrong kind",
+            Refusal::Form => "wrong form",
+            Refusal::Ended => "words ended",
+            Refusal::Length => "wrong length",
+            Refusal::Gap => "gap before it",
+            Refusal::Ahead => "ahead of the receiver",
+            Refusal::Memory => "wrong memory size",
+        }
+    }
 }
+
+impl fmt::Display for Refusal {
+    ghost output = { λ x. Some (refusal_shown x) };
+
+    fn fmt<W: fmt::Write>(&self, f: &mut fmt::Formatter<W>) -> fmt::Result {
+        let number = self.number();
+        let meaning = self.meaning();
+        write!(f, "{number} ({meaning})")
+    }
+}
+
+impl Error for Refusal {}

@@ -2,6 +2,9 @@
 ghost use Rattle.std.specs.Prelude.{◌≡◌, ◌+◌, ◌*◌, ◌/◌, ◌%◌, ◌^◌, ◌<◌, ◌==◌};
 ghost use Rattle.words.specs.Words.{kind_number, kind, index, formed, word_of};
 
+// The most words of a message, and so of a record.
+pub const LONGEST: usize = 127;
+
 // The kinds of words. Kinds 0 and 10 to 14 are not in use.
 #[derive(Clone, Copy, PartialEq, Eq, Debug)]
 pub enum WordKind {
