@@ -1,14 +1,18 @@
 -- The turns of the loop that reads a row. Assumes nothing.
-use Rattle.std.proofs.Common.{◌≡◌, ℕ, ◌+◌, ◌-◌, ◌%◌, ◌<◌, ◌≤◌, List, [], ◌∷◌, ◌++◌, length, take, drop, set, replicate, Ok, Err, sym, refl, ap, ◌∙◌, append_assoc, add-zero, arith, length-drop, length-set, take-append-drop, drop-drop, drop-set-lt, take-add}
+use Rattle.std.proofs.Common.{◌≡◌, ℕ, ◌+◌, ◌-◌, ◌%◌, ◌<◌, ◌≤◌, List, [], ◌∷◌, ◌++◌, length, take, drop, set, replicate, Some, None, Ok, Err, Result, sym, refl, ap, ◌∙◌, subst, append_assoc, add-zero, arith, length-drop, length-set, take-append-drop, drop-drop, drop-set-lt, take-add}
 use Rattle.std.proofs.lemmas.List.{take_more_set, take-replicate, drop-replicate}
 use Rattle.words.specs.declared.reader.Reader.{Reader}
-use Rattle.words.specs.Readings.{Reading, read, wrong, left, stepped, before}
+use Rattle.words.specs.Readings.{Reading, Told, read, wrong, left, stepped, before, fault_at}
 use Rattle.words.specs.Words.{index}
 use Rattle.words.proofs.Walks.{on, on_stepped, on_before}
-use Rattle.entries.specs.declared.item.Item.TheVariants.{Entry, End}
 use Rattle.entries.specs.Rows.{row_of}
-use Rattle.entries.specs.Entries.{examined, later, scan, as_row, row_reading}
+use Rattle.entries.specs.Entries.{examined, answered_at, later, scan, as_row, row_reading}
 use Rattle.entries.proofs.Scans.{entry_is, scan_by}
+
+-- a word whose answer is a fault
+pub refused : {X : Type 0} (r : Reader) (x : Result X ℕ) (t : Told) → Err t ≡ answered_at r x → (n : ℕ) × (x ≡ Err n) × (t ≡ fault_at r n)
+refused {X} r (Err n) t e = (n, refl, (let same : t ≡ fault_at r n = cc in same))
+refused {X} r (Ok i) t e = let z : ◌≡◌ {A = ℕ} 0 1 = cc in absurd (omega arith)
 
 later_none : (r : Reading (List ℕ)) → later [] r ≡ r
 later_none (read ns ws) = refl
@@ -63,16 +67,15 @@ module _ (k top : ℕ) (start reader : Reader) (cur : List ℕ) (low seen : ℕ)
         let r = so.room in
         omega arith
 
-    pub filling_step : examined k top low seen w ≡ Ok Entry → Filling k top start (stepped reader) (set cur (index w) (w % (top + 1))) (index w + 1) (seen + 1)
-    filling_step is =
+    filling_entry : low ≤ index w → examined k top low seen w ≡ Ok (Some (index w, w % (top + 1))) → Filling k top start (stepped reader) (set cur (index w) (w % (top + 1))) (index w + 1) (seen + 1)
+    filling_entry from is =
         let t = index w in
         let n = w % (top + 1) in
-        let from = (entry_is k top low seen w is).2 in
         let more : List ℕ = replicate (t - low) 0 ++ (n ∷ []) in
         let station : t < 16 = omega arith in
         let front : take (t + 1) (set cur t n) ≡ take low cur ++ more = filled t n from station in
         let next : Reading (List ℕ) = scan k top (t + 1) (seen + 1) (left (stepped reader)) in
-        let here : scan k top low seen (left reader) ≡ later more next = ap (scan k top low seen) word ∙ scan_by k top low seen w (left (stepped reader)) (Ok Entry) is in
+        let here : scan k top low seen (left reader) ≡ later more next = ap (scan k top low seen) word ∙ scan_by k top low seen w (left (stepped reader)) (Ok (Some (index w, w % (top + 1)))) is in
         record {
           walked = step_walked;
           room = step_room;
@@ -87,12 +90,17 @@ module _ (k top : ℕ) (start reader : Reader) (cur : List ℕ) (low seen : ℕ)
           few = (let f = so.few in omega arith);
         }
 
+    pub filling_step : (x : ℕ × ℕ) → examined k top low seen w ≡ Ok (Some x) → Filling k top start (stepped reader) (set cur x.0 x.1) (x.0 + 1) (seen + 1)
+    filling_step x is =
+        let so_entry = entry_is k top low seen w x is in
+        subst (λ (y : ℕ × ℕ). Filling k top start (stepped reader) (set cur y.0 y.1) (y.0 + 1) (seen + 1)) so_entry.4 (filling_entry so_entry.2 (is ∙ ap (λ y. Ok (Some y)) (sym so_entry.4)))
+
     pub read_wrong : (n : ℕ) → examined k top low seen w ≡ Err n → row_reading k top (left start) ≡ wrong n (left reader)
     read_wrong n is = ap (as_row top) (so.reads ∙ ap (later (take low cur)) (ap (scan k top low seen) word ∙ scan_by k top low seen w (left (stepped reader)) (Err n) is ∙ ap (wrong n) (sym word)))
 
-    pub read_whole : examined k top low seen w ≡ Ok End → row_reading k top (left start) ≡ read (row_of top cur) (left (stepped reader))
+    pub read_whole : examined k top low seen w ≡ Ok None → row_reading k top (left start) ≡ read (row_of top cur) (left (stepped reader))
     read_whole is =
-        let end : scan k top low seen (left reader) ≡ read (replicate (16 - low) 0) (left (stepped reader)) = ap (scan k top low seen) word ∙ scan_by k top low seen w (left (stepped reader)) (Ok End) is in
+        let end : scan k top low seen (left reader) ≡ read (replicate (16 - low) 0) (left (stepped reader)) = ap (scan k top low seen) word ∙ scan_by k top low seen w (left (stepped reader)) (Ok None) is in
         ap (as_row top) (so.reads ∙ ap (later (take low cur)) end ∙ ap (λ xs. read (take low cur ++ xs) (left (stepped reader))) (sym so.zeros) ∙ ap (λ xs. read xs (left (stepped reader))) (take-append-drop low cur))
 
     pub step_before : stepped reader ≡ before start (left (stepped reader))

@@ -1,4 +1,3 @@
-pub mod Fits
 pub mod Scans
 pub mod Turns
 pub mod Fills

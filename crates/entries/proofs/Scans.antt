@@ -1,16 +1,14 @@
 -- A row's words are read as the row, and what is read as a row is its words. Over the kind and the largest number. Assumes nothing.
-use Rattle.std.proofs.Common.{◌≡◌, ℕ, zero, suc, ◌+◌, ◌-◌, ◌%◌, ◌<◌, ◌≤◌, Bool, true, false, cond, ◌&&◌, T, eqb, ltb, leb, List, [], ◌∷◌, ◌++◌, length, replicate, Ok, Err, Result, sym, refl, ap, ◌∙◌, subst, append_assoc, add-zero, mod-eq_of_lt, arith, ltb→lt, lt→ltb, length-append}
+use Rattle.std.proofs.Common.{◌≡◌, ℕ, zero, suc, ◌+◌, ◌-◌, ◌%◌, ◌<◌, ◌≤◌, Bool, true, false, cond, ◌&&◌, T, eqb, ltb, leb, List, [], ◌∷◌, ◌++◌, length, replicate, Some, None, Option, Ok, Err, Result, sym, refl, ap, ◌∙◌, subst, append_assoc, add-zero, mod-eq_of_lt, arith, ltb→lt, lt→ltb, length-append}
 use Rattle.std.proofs.lemmas.Nat.{mod_below}
 use Rattle.std.proofs.lemmas.List.{append-nil, length-replicate, replicate_more}
 use Rattle.std.proofs.lemmas.Bool.{eq-eqb, ne_eqb, eqb-true, eqb-false, lt-ltb, le-leb, leb-true, ltb-true, cond-true, cond-false, and_from, and_parts}
 use Rattle.words.specs.Readings.{Reading, read, wrong}
 use Rattle.words.specs.Words.{kind, index, formed}
-use Rattle.entries.specs.declared.item.Item.{Item}
-use Rattle.entries.specs.declared.item.Item.TheVariants.{Entry, End}
 use Rattle.entries.specs.Sixteen.{all_below, tabulated, length_tabulated, getD_tabulated, tabulated_is, both, first_of, second_of, below_at}
 use Rattle.entries.specs.Rows.{Row, same_row, length_row, row_of}
 use Rattle.entries.specs.Entries.{entry_word, end_word, entries, entries_and_end, row_written, examined, later, onward, scan, as_row, row_reading}
-use Rattle.entries.proofs.Fits.{Fits, kind_entry, index_entry, kind_end, formed_end, number_end, splits_end}
+use Rattle.entries.specs.Fits.{Fits, kind_entry, index_entry, kind_end, formed_end, number_end, splits_end}
 
 pub tabulated_same : (f h : ℕ → ℕ) → ((k : ℕ) → k < 16 → f k ≡ h k) → tabulated f ≡ tabulated h
 tabulated_same f h each = tabulated_is h (tabulated f) (length_tabulated f) (λ k low. getD_tabulated f k low ∙ each k low)
@@ -23,50 +21,50 @@ pub row_of_row : (top : ℕ) (v : Row top) → row_of top v.numbers ≡ v
 row_of_row top v = same_row _ _ (stands top v.numbers (length_row v) (second_of (eqb (length v.numbers) 16) (all_below (top + 1) v.numbers) v.sound))
 
 -- what one word is
-sight : (a b c d : Bool) → Result Item ℕ
-sight a b c d = cond a (cond b (Ok End) (Err 11)) (cond c (cond d (Ok Entry) (Err 11)) (Err 10))
+sight : (a b c d : Bool) (x : ℕ × ℕ) → Result (Option (ℕ × ℕ)) ℕ
+sight a b c d x = cond a (cond b (Ok None) (Err 11)) (cond c (cond d (Ok (Some x)) (Err 11)) (Err 10))
 
-was_end : (a b c d : Bool) → sight a b c d ≡ Ok End → (a ≡ true) × (b ≡ true)
+was_end : (a b c d : Bool) (x : ℕ × ℕ) → sight a b c d x ≡ Ok None → (a ≡ true) × (b ≡ true)
 unfolding sight
-was_end true true c d e = (refl, refl)
-was_end true false c d e = let z : ◌≡◌ {A = ℕ} 0 1 = cc in absurd (omega arith)
-was_end false b true true e = let z : ◌≡◌ {A = ℕ} 0 1 = cc in absurd (omega arith)
-was_end false b true false e = let z : ◌≡◌ {A = ℕ} 0 1 = cc in absurd (omega arith)
-was_end false b false d e = let z : ◌≡◌ {A = ℕ} 0 1 = cc in absurd (omega arith)
+was_end true true c d x e = (refl, refl)
+was_end true false c d x e = let z : ◌≡◌ {A = ℕ} 0 1 = cc in absurd (omega arith)
+was_end false b true true x e = let z : ◌≡◌ {A = ℕ} 0 1 = cc in absurd (omega arith)
+was_end false b true false x e = let z : ◌≡◌ {A = ℕ} 0 1 = cc in absurd (omega arith)
+was_end false b false d x e = let z : ◌≡◌ {A = ℕ} 0 1 = cc in absurd (omega arith)
 
-was_entry : (a b c d : Bool) → sight a b c d ≡ Ok Entry → (c ≡ true) × (d ≡ true)
+was_entry : (a b c d : Bool) (x y : ℕ × ℕ) → sight a b c d x ≡ Ok (Some y) → (c ≡ true) × (d ≡ true) × (x ≡ y)
 unfolding sight
-was_entry false b true true e = (refl, refl)
-was_entry false b true false e = let z : ◌≡◌ {A = ℕ} 0 1 = cc in absurd (omega arith)
-was_entry false b false d e = let z : ◌≡◌ {A = ℕ} 0 1 = cc in absurd (omega arith)
-was_entry true true c d e = let z : ◌≡◌ {A = ℕ} 0 1 = cc in absurd (omega arith)
-was_entry true false c d e = let z : ◌≡◌ {A = ℕ} 0 1 = cc in absurd (omega arith)
+was_entry false b true true x y e = (refl, refl, (let same : x ≡ y = cc in same))
+was_entry false b true false x y e = let z : ◌≡◌ {A = ℕ} 0 1 = cc in absurd (omega arith)
+was_entry false b false d x y e = let z : ◌≡◌ {A = ℕ} 0 1 = cc in absurd (omega arith)
+was_entry true true c d x y e = let z : ◌≡◌ {A = ℕ} 0 1 = cc in absurd (omega arith)
+was_entry true false c d x y e = let z : ◌≡◌ {A = ℕ} 0 1 = cc in absurd (omega arith)
 
 module _ (k top low seen w : ℕ) where
-  pub is_end : kind w ≡ 9 → formed w ≡ true → w % 32 ≡ seen → examined k top low seen w ≡ Ok End
+  pub is_end : kind w ≡ 9 → formed w ≡ true → w % 32 ≡ seen → examined k top low seen w ≡ Ok None
   is_end e f n = cond-true _ _ _ (eq-eqb _ _ e) ∙ cond-true _ _ _ (and_from _ _ f (eq-eqb _ _ n))
 
-  pub is_entry : (kind w ≡ 9 → ⊥) → kind w ≡ k → formed w ≡ true → low ≤ index w → 0 < w % (top + 1) → examined k top low seen w ≡ Ok Entry
+  pub is_entry : (kind w ≡ 9 → ⊥) → kind w ≡ k → formed w ≡ true → low ≤ index w → 0 < w % (top + 1) → examined k top low seen w ≡ Ok (Some (index w, w % (top + 1)))
   is_entry other e f from some =
       cond-false _ _ _ (ne_eqb _ _ other) ∙ cond-true _ _ _ (eq-eqb _ _ e) ∙ cond-true _ _ _ (and_from _ _ f (and_from _ _ (le-leb low (index w) from) (lt-ltb 0 (w % (top + 1)) some)))
 
-  pub end_is : examined k top low seen w ≡ Ok End → (kind w ≡ 9) × (formed w ≡ true) × (w % 32 ≡ seen)
+  pub end_is : examined k top low seen w ≡ Ok None → (kind w ≡ 9) × (formed w ≡ true) × (w % 32 ≡ seen)
   unfolding sight
   end_is e =
-      let a = was_end (eqb (kind w) 9) (formed w && eqb (w % 32) seen) (eqb (kind w) k) (formed w && (leb low (index w) && ltb 0 (w % (top + 1)))) e in
+      let a = was_end (eqb (kind w) 9) (formed w && eqb (w % 32) seen) (eqb (kind w) k) (formed w && (leb low (index w) && ltb 0 (w % (top + 1)))) (index w, w % (top + 1)) e in
       let b = and_parts (formed w) (eqb (w % 32) seen) a.1 in
       (eqb-true (kind w) 9 a.0, b.0, eqb-true (w % 32) seen b.1)
 
-  pub entry_is : examined k top low seen w ≡ Ok Entry → (kind w ≡ k) × (formed w ≡ true) × (low ≤ index w) × (0 < w % (top + 1))
+  pub entry_is : (x : ℕ × ℕ) → examined k top low seen w ≡ Ok (Some x) → (kind w ≡ k) × (formed w ≡ true) × (low ≤ index w) × (0 < w % (top + 1)) × ((index w, w % (top + 1)) ≡ x)
   unfolding sight
-  entry_is e =
-      let a = was_entry (eqb (kind w) 9) (formed w && eqb (w % 32) seen) (eqb (kind w) k) (formed w && (leb low (index w) && ltb 0 (w % (top + 1)))) e in
+  entry_is x e =
+      let a = was_entry (eqb (kind w) 9) (formed w && eqb (w % 32) seen) (eqb (kind w) k) (formed w && (leb low (index w) && ltb 0 (w % (top + 1)))) (index w, w % (top + 1)) x e in
       let b = and_parts (formed w) (leb low (index w) && ltb 0 (w % (top + 1))) a.1 in
       let d = and_parts (leb low (index w)) (ltb 0 (w % (top + 1))) b.1 in
-      (eqb-true (kind w) k a.0, b.0, leb-true low (index w) d.0, ltb-true 0 (w % (top + 1)) d.1)
+      (eqb-true (kind w) k a.0, b.0, leb-true low (index w) d.0, ltb-true 0 (w % (top + 1)) d.1, a.2)
 
-  pub scan_by : (ws : List ℕ) (x : Result Item ℕ) → examined k top low seen w ≡ x → scan k top low seen (w ∷ ws) ≡ onward x top low w ws (scan k top (index w + 1) (seen + 1) ws)
-  scan_by ws x e = ap (λ y. onward y top low w ws (scan k top (index w + 1) (seen + 1) ws)) e
+  pub scan_by : (ws : List ℕ) (x : Result (Option (ℕ × ℕ)) ℕ) → examined k top low seen w ≡ x → scan k top low seen (w ∷ ws) ≡ onward x low w ws (scan k top (index w + 1) (seen + 1) ws)
+  scan_by ws x e = ap (λ y. onward y low w ws (scan k top (index w + 1) (seen + 1) ws)) e
 
 -- zeros have no entries
 pub entries_zeros : (k m s : ℕ) (ns : List ℕ) → entries k s (replicate m 0 ++ ns) ≡ entries k (s + m) ns
@@ -89,7 +87,7 @@ below_zeros top (suc m) = both (ltb 0 (top + 1)) (all_below (top + 1) (replicate
 
 module _ (k top : ℕ) (fit : Fits k top) where
   scan_end : (low seen : ℕ) (ws : List ℕ) → seen < 32 → scan k top low seen (end_word seen ∷ ws) ≡ read (replicate (16 - low) 0) ws
-  scan_end low seen ws few = scan_by k top low seen (end_word seen) ws (Ok End) (is_end k top low seen (end_word seen) (kind_end seen) (formed_end seen few) (number_end seen few))
+  scan_end low seen ws few = scan_by k top low seen (end_word seen) ws (Ok None) (is_end k top low seen (end_word seen) (kind_end seen) (formed_end seen few) (number_end seen few))
 
   scan_entry : (low seen s n : ℕ) (ws : List ℕ) → low ≤ s → s < 16 → 0 < n → n ≤ top → scan k top low seen (entry_word k s n ∷ ws) ≡ later (replicate (s - low) 0 ++ (n ∷ [])) (scan k top (s + 1) (seen + 1) ws)
   scan_entry low seen s n ws from station some most =
@@ -98,7 +96,7 @@ module _ (k top : ℕ) (fit : Fits k top) where
       let is : kind w ≡ k = kind_entry k s n in
       let at : index w ≡ s = index_entry k s n station (omega arith) in
       let number : w % (top + 1) ≡ n = fit.is_number s n station most in
-      scan_by k top low seen w ws (Ok Entry) (is_entry k top low seen w (λ e. fit.no_end (sym is ∙ e)) is (fit.is_formed s n station most) (omega arith) (omega arith))
+      scan_by k top low seen w ws (Ok (Some (index w, w % (top + 1)))) (is_entry k top low seen w (λ e. fit.no_end (sym is ∙ e)) is (fit.is_formed s n station most) (omega arith) (omega arith))
       ∙ ap (λ t. later (replicate (t - low) 0 ++ (w % (top + 1) ∷ [])) (scan k top (t + 1) (seen + 1) ws)) at
       ∙ ap (λ m. later (replicate (s - low) 0 ++ (m ∷ [])) (scan k top (s + 1) (seen + 1) ws)) number
 
@@ -182,11 +180,12 @@ module _ (k top : ℕ) (fit : Fits k top) where
       subst (λ xs. Exact (w ∷ ws) low seen xs more) p (exact_entry w ws low seen ms more is f from some (ih ms (ap (read ms) q)))
   by_later w ws low seen ns more is f from some (wrong m j) ih e = let z : ◌≡◌ {A = ℕ} 0 1 = cc in absurd (omega arith)
 
-  by_word : (w : ℕ) (ws : List ℕ) (low seen : ℕ) (ns more : List ℕ) → low ≤ 16 → ((ms : List ℕ) → scan k top (index w + 1) (seen + 1) ws ≡ read ms more → Exact ws (index w + 1) (seen + 1) ms more) → (x : Result Item ℕ) → examined k top low seen w ≡ x → onward x top low w ws (scan k top (index w + 1) (seen + 1) ws) ≡ read ns more → Exact (w ∷ ws) low seen ns more
-  by_word w ws low seen ns more from ih (Ok Entry) is e =
-      let p = entry_is k top low seen w is in
-      by_later w ws low seen ns more p.0 p.1 p.2 p.3 _ ih e
-  by_word w ws low seen ns more from ih (Ok End) is e =
+  by_word : (w : ℕ) (ws : List ℕ) (low seen : ℕ) (ns more : List ℕ) → low ≤ 16 → ((ms : List ℕ) → scan k top (index w + 1) (seen + 1) ws ≡ read ms more → Exact ws (index w + 1) (seen + 1) ms more) → (x : Result (Option (ℕ × ℕ)) ℕ) → examined k top low seen w ≡ x → onward x low w ws (scan k top (index w + 1) (seen + 1) ws) ≡ read ns more → Exact (w ∷ ws) low seen ns more
+  by_word w ws low seen ns more from ih (Ok (Some x)) is e =
+      let p = entry_is k top low seen w x is in
+      let more_of : ℕ × ℕ → Reading (List ℕ) = λ y. later (replicate (y.0 - low) 0 ++ (y.1 ∷ [])) (scan k top (index w + 1) (seen + 1) ws) in
+      by_later w ws low seen ns more p.0 p.1 p.2 p.3 _ ih (ap more_of p.4 ∙ e)
+  by_word w ws low seen ns more from ih (Ok None) is e =
       let p = end_is k top low seen w is in
       let a : replicate (16 - low) 0 ≡ ns = cc in
       let b : ws ≡ more = cc in

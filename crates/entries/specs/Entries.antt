@@ -3,13 +3,13 @@
 --     end_word n                   the word after n entries
 --     entries k s ns               the words of those of ns that are not 0, the first of ns being entry s
 --     row_written k v              the words of a row
---     examined k top low seen w    what word w is after seen entries, all below number low: an entry, the end, or a refusal
+--     examined k top low seen w    what word w is after seen entries, all below number low: an entry with its number, the end, or a refusal
+--     answered_at r x              what reader r answers of a word at its place that is x
 --     row_reading k top ws         the row at the front of words
-use Rattle.std.specs.Prelude.{◌≡◌, ℕ, ◌+◌, ◌-◌, ◌*◌, ◌%◌, ◌^◌, cond, ◌&&◌, List, [], ◌∷◌, ◌++◌, length, replicate, Ok, Err, Result, ◌==◌, nat_le, nat_lt}
-use Rattle.words.specs.Readings.{Reading, read, wrong}
+use Rattle.std.specs.Prelude.{◌≡◌, ℕ, ◌+◌, ◌-◌, ◌*◌, ◌%◌, ◌^◌, cond, ◌&&◌, List, [], ◌∷◌, ◌++◌, length, replicate, Some, None, Option, Ok, Err, Result, ◌==◌, nat_le, nat_lt}
+use Rattle.words.specs.declared.reader.Reader.{Reader}
+use Rattle.words.specs.Readings.{Reading, Told, read, wrong, fault_at}
 use Rattle.words.specs.Words.{kind, index, formed, word_of}
-use Rattle.entries.specs.declared.item.Item.{Item}
-use Rattle.entries.specs.declared.item.Item.TheVariants.{Entry, End}
 use Rattle.entries.specs.Rows.{Row, row_of}
 
 abbrev pub entry_word : ℕ → ℕ → ℕ → ℕ
@@ -30,13 +30,17 @@ abbrev pub row_written : (k : ℕ) {top : ℕ} → Row top → List ℕ
 row_written k v = entries_and_end k 0 0 v.numbers
 
 -- wrong in form: a nonzero zero bit, an entry number not above the last, a zero entry, a false end number
-abbrev pub examined : (k top low seen w : ℕ) → Result Item ℕ
+abbrev pub examined : (k top low seen w : ℕ) → Result (Option (ℕ × ℕ)) ℕ
 examined k top low seen w =
     cond (kind w == 9)
-    (cond (formed w && w % 32 == seen) (Ok End) (Err 11))
+    (cond (formed w && w % 32 == seen) (Ok None) (Err 11))
     (cond (kind w == k)
-    (cond (formed w && (nat_le low (index w) && nat_lt 0 (w % (top + 1)))) (Ok Entry) (Err 11))
+    (cond (formed w && (nat_le low (index w) && nat_lt 0 (w % (top + 1)))) (Ok (Some (index w, w % (top + 1)))) (Err 11))
     (Err 10))
+
+abbrev pub answered_at : {X : Type 0} → Reader → Result X ℕ → Result X Told
+answered_at r (Ok x) = Ok x
+answered_at r (Err n) = Err (fault_at r n)
 
 -- numbers before those that are read
 abbrev pub later : List ℕ → Reading (List ℕ) → Reading (List ℕ)
@@ -44,14 +48,14 @@ later front (read ns ws) = read (front ++ ns) ws
 later front (wrong n ws) = wrong n ws
 
 -- the numbers from entry low on, where w is the first word, and ws, read as more, are those after it
-abbrev pub onward : Result Item ℕ → (top low w : ℕ) → List ℕ → Reading (List ℕ) → Reading (List ℕ)
-onward (Ok Entry) top low w ws more = later (replicate (index w - low) 0 ++ (w % (top + 1) ∷ [])) more
-onward (Ok End) top low w ws more = read (replicate (16 - low) 0) ws
-onward (Err n) top low w ws more = wrong n (w ∷ ws)
+abbrev pub onward : Result (Option (ℕ × ℕ)) ℕ → (low w : ℕ) → List ℕ → Reading (List ℕ) → Reading (List ℕ)
+onward (Ok (Some e)) low w ws more = later (replicate (e.0 - low) 0 ++ (e.1 ∷ [])) more
+onward (Ok None) low w ws more = read (replicate (16 - low) 0) ws
+onward (Err n) low w ws more = wrong n (w ∷ ws)
 
 abbrev pub scan : (k top low seen : ℕ) → List ℕ → Reading (List ℕ)
 scan k top low seen [] = wrong 12 []
-scan k top low seen (w ∷ ws) = onward (examined k top low seen w) top low w ws (scan k top (index w + 1) (seen + 1) ws)
+scan k top low seen (w ∷ ws) = onward (examined k top low seen w) low w ws (scan k top (index w + 1) (seen + 1) ws)
 
 abbrev pub as_row : (top : ℕ) → Reading (List ℕ) → Reading (Row top)
 as_row top (read ns ws) = read (row_of top ns) ws

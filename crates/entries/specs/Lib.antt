@@ -1,4 +1,4 @@
-pub mod Kinds
 pub mod Sixteen
 pub mod Rows
 pub mod Entries
+pub mod Fits

@@ -1,34 +1,36 @@
 // One word of a row.
 ghost use Rattle.std.specs.Prelude.{◌≡◌};
-ghost use Rattle.words.specs.Refusals.{numbered};
-ghost use Rattle.entries.specs.Kinds.{top_of, entry_number};
-ghost use Rattle.entries.specs.Entries.{examined};
+ghost use Rattle.words.specs.Words.{kind_number};
+ghost use Rattle.words.specs.Readings.{told};
+ghost use Rattle.entries.specs.Entries.{examined, answered_at};
 
 use crate::kind::EntryKind;
+use words::fault::Fault;
+use words::reader::Reader;
 use words::refusal::Refusal;
 use words::word::{Word, WordKind};
 
-#[derive(Clone, Copy)]
-pub enum Item {
-    Entry,
-    End,
-}
-
-// What a word of a row is, after `seen` entries that are all below number `low`.
-pub(crate) fn examine(word: Word, kind: EntryKind, low: u32, seen: u32) -> Result<Item, Refusal>
-    ensures { numbered result ≡ examined (entry_number kind) (top_of kind) low seen word.0 }
+// The number of the entry and the number that it holds, or None at the end, after `seen` entries that are all below number `low`.
+pub(crate) fn examine<K: EntryKind>(
+    reader: &Reader,
+    word: Word,
+    low: u32,
+    seen: u32,
+) -> Result<Option<(u32, u32)>, Fault>
+    ensures { told result ≡ answered_at reader.now (examined (kind_number K.WORD) K.TOP low seen word.0) }
 {
     if word.is(WordKind::End) {
         if word.is_well_formed() && word.0 % 32 == seen {
-            return Ok(Item::End);
+            return Ok(None);
         }
-        return Err(Refusal::Form);
+        return Err(reader.fault(Refusal::Form));
     }
-    if !word.is(kind.word()) {
-        return Err(Refusal::Kind);
+    if !word.is(K::WORD) {
+        return Err(reader.fault(Refusal::Kind));
     }
-    if word.is_well_formed() && word.index() >= low && word.0 % (kind.top() + 1) != 0 {
-        return Ok(Item::Entry);
+    let number = K::low(word.0);
+    if word.is_well_formed() && word.index() >= low && number != 0 {
+        return Ok(Some((word.index(), number)));
     }
-    Err(Refusal::Form)
+    Err(reader.fault(Refusal::Form))
 }

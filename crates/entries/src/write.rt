@@ -1,8 +1,8 @@
 // The size and the words of a row.
 ghost use Rattle.std.specs.Prelude.{◌≡◌, ◌≤◌, length};
+ghost use Rattle.words.specs.Words.{kind_number};
 ghost use Rattle.words.specs.Refusals.{numbered};
 ghost use Rattle.words.specs.Writes.{write_answer, write_leaves};
-ghost use Rattle.entries.specs.Kinds.{top_of, entry_number};
 ghost use Rattle.entries.specs.Rows.{row_of};
 ghost use Rattle.entries.specs.Entries.{row_written};
 
@@ -11,13 +11,13 @@ use words::refusal::Refusal;
 use words::word::{Word, WordKind};
 
 // The number of words that a row is written as.
-pub fn size(row: &[u32; 16], kind: EntryKind) -> usize
-    ensures value { result ≡ length (row_written (entry_number kind) (row_of (top_of kind) row.now)) }
+pub fn size<K: EntryKind>(row: &[u32; 16]) -> usize
+    ensures value { result ≡ length (row_written (kind_number K.WORD) (row_of K.TOP row.now)) }
     ensures bound { result ≤ 17 }
 {
     let mut n: usize = 1;
     for stored in row {
-        if *stored % (kind.top() + 1) != 0 {
+        if K::low(*stored) != 0 {
             n += 1;
         }
     }
@@ -25,25 +25,24 @@ pub fn size(row: &[u32; 16], kind: EntryKind) -> usize
 }
 
 // Writes a row at a place, and answers the place after it.
-pub fn write(
+pub fn write<K: EntryKind>(
     row: &[u32; 16],
-    kind: EntryKind,
     words: &mut [u32],
     place: usize,
 ) -> Result<usize, Refusal>
-    ensures answer { numbered result ≡ write_answer (length words.old) place (length (row_written (entry_number kind) (row_of (top_of kind) row.now))) }
-    ensures words { words.new ≡ write_leaves words.old place (row_written (entry_number kind) (row_of (top_of kind) row.now)) }
+    ensures answer { numbered result ≡ write_answer (length words.old) place (length (row_written (kind_number K.WORD) (row_of K.TOP row.now))) }
+    ensures words { words.new ≡ write_leaves words.old place (row_written (kind_number K.WORD) (row_of K.TOP row.now)) }
 {
-    let all = size(row, kind);
+    let all = size::<K>(row);
     if words.len().saturating_sub(place) < all {
         return Err(Refusal::Room);
     }
     let mut next = place;
     let mut seen: u32 = 0;
-    for i in 0..16 {
-        let number = row[i] % (kind.top() + 1);
+    for (i, stored) in row.iter().enumerate() {
+        let number = K::low(*stored);
         if number != 0 {
-            words[next] = Word::new(kind.word(), i as u32 * 0x100_0000 + number).0;
+            words[next] = Word::new(K::WORD, i as u32 * 0x100_0000 + number).0;
             next += 1;
             seen += 1;
         }

@@ -1,11 +1,8 @@
--- What the words of an entry need of their kind and of the largest number: the one place where these are looked at. Assumes nothing.
+-- What the words of an entry need of their kind and of the largest number: the one place where these are looked at. Lemmas, for the kinds of src/kind.rt. Assumes nothing.
 use Rattle.std.proofs.Common.{◌≡◌, ℕ, ◌+◌, ◌/◌, ◌%◌, ◌^◌, ◌<◌, ◌≤◌, true, eqb, sym, ap, ◌∙◌, arith, lit<}
 use Rattle.std.proofs.lemmas.Nat.{shr-shr}
 use Rattle.std.proofs.lemmas.Bool.{eq-eqb, eqb-true}
 use Rattle.words.specs.Words.{kind, index, zero_run, formed}
-use Rattle.entries.specs.declared.kind.EntryKind.{EntryKind}
-use Rattle.entries.specs.declared.kind.EntryKind.TheVariants.{Clock, Counter, Set}
-use Rattle.entries.specs.Kinds.{top_of, entry_number}
 use Rattle.entries.specs.Entries.{entry_word, end_word}
 
 pub record Fits (k top : ℕ) : Type 0 where
@@ -54,22 +51,26 @@ split_short k w e z =
     let b : w % 2 ^ 24 ≡ w % 2 ^ 16 = omega arith in
     split_long k w e ∙ ap (entry_word k (index w)) b
 
-pub fits : (e : EntryKind) → Fits (entry_number e) (top_of e)
-fits Clock = record {
+pub clock_fits : Fits 5 65535
+clock_fits = record {
   no_end = λ e. omega arith;
   small = lit< tt;
   is_number = λ s n h l. omega arith;
   is_formed = λ s n h l. well_formed (entry_word 5 s n) 5 (kind_entry 5 s n) (let z : entry_word 5 s n / 2 ^ 16 % 2 ^ 8 ≡ 0 = omega arith in z);
   splits = λ w e f. split_short 5 w e (zero_bits w 5 e f);
 }
-fits Counter = record {
+
+pub counter_fits : Fits 6 16777215
+counter_fits = record {
   no_end = λ e. omega arith;
   small = lit< tt;
   is_number = λ s n h l. omega arith;
   is_formed = λ s n h l. well_formed (entry_word 6 s n) 6 (kind_entry 6 s n) (let z : entry_word 6 s n / 2 ^ 0 % 2 ^ 0 ≡ 0 = omega arith in z);
   splits = λ w e f. split_long 6 w e;
 }
-fits Set = record {
+
+pub set_fits : Fits 7 65535
+set_fits = record {
   no_end = λ e. omega arith;
   small = lit< tt;
   is_number = λ s n h l. omega arith;
