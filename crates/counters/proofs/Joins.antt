@@ -1,11 +1,8 @@
--- The turns of the loops that join and add counts. Assumes nothing.
-use Rattle.std.proofs.Common.{◌≡◌, ℕ, ◌+◌, ◌*◌, ◌%◌, ◌^◌, ◌<◌, ◌≤◌, max, ◌≢◌, List, length, get_or, take, set, sum, ap, ◌∙◌, arith, get_or-set_other, get_or-set_same, below_more}
+-- The turns of the loop that joins counts. Assumes nothing.
+use Rattle.std.proofs.Common.{◌≡◌, ℕ, ◌+◌, ◌%◌, ◌<◌, ◌≤◌, max, ◌≢◌, List, length, get_or, set, ap, ◌∙◌, arith, get_or-set_other, get_or-set_same, below_more}
 use native.Mathlib.Nat.{mod-mod}
-use Rattle.std.proofs.lemmas.Nat.{mod_below}
-use Rattle.std.proofs.lemmas.List.{take_all}
-use Rattle.std.proofs.lemmas.List.Sums.{sum_by_more}
 use Rattle.entries.specs.Sixteen.{tabulated, getD_tabulated}
-use Rattle.entries.specs.Rows.{same_row, length_row, row_of}
+use Rattle.entries.specs.Rows.{same_row, row_of}
 use Rattle.entries.proofs.Scans.{tabulated_same}
 use Rattle.counters.specs.Counts.{larger}
 
@@ -42,23 +39,3 @@ joining_all top old theirs cur so = same_row _ _ (tabulated_same _ _ (λ k h.
     let b : get_or (tabulated (λ j. get_or theirs j 0 % (top + 1))) k 0 ≡ get_or theirs k 0 % (top + 1) = getD_tabulated (λ j. get_or theirs j 0 % (top + 1)) k h in
     let e = so.joined k h in
     omega arith))
-
--- the counts below i are added up
-pub record Adding (top : ℕ) (xs : List ℕ) (i n : ℕ) : Type 0 where
-  pub so_far : n ≡ sum (take i (row_of top xs).numbers)
-  pub small : n ≤ i * 2 ^ 24
-
-module _ (top : ℕ) (xs : List ℕ) (i n : ℕ) (so : Adding top xs i n) where
-  pub adding_more : top < 2 ^ 24 → i < 16 → Adding top xs (i + 1) (n + get_or xs i 0 % (top + 1))
-  adding_more low within =
-      let ns = (row_of top xs).numbers in
-      let long = length_row (row_of top xs) in
-      let here : get_or ns i 0 ≡ get_or xs i 0 % (top + 1) = getD_tabulated (λ j. get_or xs j 0 % (top + 1)) i within in
-      let more = sum_by_more (λ x. x) ns i 0 (omega arith) in
-      let below = mod_below (get_or xs i 0) (top + 1) (omega arith) in
-      let f = so.so_far in
-      let s = so.small in
-      record { so_far = omega arith; small = omega arith }
-
-  pub adding_all : 16 ≤ i → n ≡ sum (row_of top xs).numbers
-  adding_all past = so.so_far ∙ ap sum (take_all i (row_of top xs).numbers (let long = length_row (row_of top xs) in omega arith))

@@ -1,11 +1,12 @@
 -- How counts stand to each other. Assumes nothing.
 --     nowhere_higher a b     whether no count of a is higher than that of b
+--     same a b               whether the counts are the same
 --     compared a b           how a stands to b
 --     Compared a b r         what each of the four answers means
-use Rattle.std.specs.Prelude.{◌≡◌, ℕ, ◌<◌, ◌≤◌, Bool, true, cond, ◌&&◌, List, [], ◌∷◌, ◌≢◌, nat_le, slice_index}
+use Rattle.std.specs.Prelude.{◌≡◌, ℕ, ◌<◌, ◌≤◌, Bool, true, cond, ◌&&◌, List, [], ◌∷◌, ◌≢◌, Some, None, Option, nat_le, slice_index}
+use Rattle.std.specs.declared.cmp.Ordering.{Ordering}
+use Rattle.std.specs.declared.cmp.Ordering.TheVariants.{Less, Equal, Greater}
 use Rattle.entries.specs.Rows.{Row}
-use Rattle.counters.specs.declared.clock_order.ClockOrder.{ClockOrder}
-use Rattle.counters.specs.declared.clock_order.ClockOrder.TheVariants.{Same, Behind, Ahead, Sideways}
 
 abbrev pub none_higher : List ℕ → List ℕ → Bool
 none_higher [] ns = true
@@ -24,11 +25,14 @@ module _ {top : ℕ} (a b : Row top) where
   SomewhereHigher = (k : ℕ) × (slice_index b.numbers k < slice_index a.numbers k)
 
 module _ {top : ℕ} (a b : Row top) where
-  abbrev pub compared : ClockOrder
-  compared = cond (nowhere_higher a b) (cond (nowhere_higher b a) Same Behind) (cond (nowhere_higher b a) Ahead Sideways)
+  abbrev pub same : Bool
+  same = nowhere_higher a b && nowhere_higher b a
 
-  abbrev pub Compared : ClockOrder → Type 0
-  Compared Same = a ≡ b
-  Compared Behind = NowhereHigher a b × (a ≢ b)
-  Compared Ahead = NowhereHigher b a × (a ≢ b)
-  Compared Sideways = SomewhereHigher a b × SomewhereHigher b a
+  abbrev pub compared : Option Ordering
+  compared = cond (nowhere_higher a b) (cond (nowhere_higher b a) (Some Equal) (Some Less)) (cond (nowhere_higher b a) (Some Greater) None)
+
+  abbrev pub Compared : Option Ordering → Type 0
+  Compared (Some Equal) = a ≡ b
+  Compared (Some Less) = NowhereHigher a b × (a ≢ b)
+  Compared (Some Greater) = NowhereHigher b a × (a ≢ b)
+  Compared None = SomewhereHigher a b × SomewhereHigher b a

@@ -1,7 +1,6 @@
 // Records of sixteen counts, one a station, joined by the larger count.
 #![tactic(auto)]
 
-pub mod clock_order;
-mod counts;
+pub mod counts;
 pub mod g_counter;
 pub mod vector_clock;
