@@ -4,20 +4,16 @@ ghost use Rattle.words.specs.Refusals.{numbered, bare, value_or};
 ghost use Rattle.entries.specs.Entries.{row_written, row_reading};
 ghost use Rattle.registers.specs.Members.{Members, members_of, has, none, union, count, set_reported, Unites, Only, Subsets};
 ghost use Rattle.registers.specs.Sets.{union_assoc, union_comm, union_idem, union_none};
-ghost use Rattle.entries.proofs.Fits.{fits};
+ghost use Rattle.entries.specs.Fits.{set_fits};
 ghost use Rattle.entries.proofs.Scans.{row_reads, row_exact};
-ghost use Rattle.entries.specs.declared.kind.EntryKind.TheVariants.{Set};
 
 use crdt::kind::Crdt;
-use entries::kind::EntryKind;
+use entries::kind::{EntryKind, Set};
 use entries::load::load;
 use entries::write::{size, write};
 use words::fault::Fault;
 use words::reader::Reader;
 use words::refusal::Refusal;
-
-// One more than the largest entry: an entry has 16 bits.
-const LIMIT: u32 = 65_536;
 
 // Entry c has bit b where 16 * c + b is a member. A stored entry stands for its low 16 bits.
 #[derive(Clone, Copy)]
@@ -38,7 +34,7 @@ impl GSet {
         if member > 255 {
             return false;
         }
-        let entry = self.bits[(member / 16) as usize] % LIMIT;
+        let entry = Set::low(self.bits[(member / 16) as usize]);
         (entry >> (member % 16)) % 2 == 1
     }
 
@@ -46,11 +42,10 @@ impl GSet {
     pub fn len(&self) -> usize
         ensures { result ≡ count (members_of self.now.bits) }
     {
-        let mut n: usize = 0;
-        for stored in &self.bits {
-            n += (*stored % LIMIT).count_ones() as usize;
-        }
-        n
+        self.bits
+            .iter()
+            .map(|stored| Set::low(*stored).count_ones() as usize)
+            .sum()
     }
 }
 
@@ -79,9 +74,9 @@ impl Crdt for GSet {
 
     ghost neutral = { union_none };
 
-    ghost reads = { row_reads 7 65535 (fits Set) };
+    ghost reads = { row_reads 7 65535 set_fits };
 
-    ghost exact = { row_exact 7 65535 (fits Set) };
+    ghost exact = { row_exact 7 65535 set_fits };
 
     fn bottom() -> GSet {
         GSet { bits: [0; 16] }
@@ -91,8 +86,8 @@ impl Crdt for GSet {
         ensures value { members_of self.new.bits ≡ union (members_of self.old.bits) (members_of other.now.bits) }
         ensures members { Unites (members_of self.old.bits) (members_of other.now.bits) (members_of self.new.bits) }
     {
-        for i in 0..16 {
-            self.bits[i] |= other.bits[i];
+        for (i, theirs) in other.bits.iter().enumerate() {
+            self.bits[i] |= *theirs;
         }
     }
 
@@ -113,14 +108,14 @@ impl Crdt for GSet {
     }
 
     fn size(&self) -> usize {
-        size(&self.bits, EntryKind::Set)
+        size::<Set>(&self.bits)
     }
 
     fn write(&self, words: &mut [u32], place: usize) -> Result<usize, Refusal> {
-        write(&self.bits, EntryKind::Set, words, place)
+        write::<Set>(&self.bits, words, place)
     }
 
     fn load(&mut self, reader: &mut Reader) -> Result<usize, Fault> {
-        load(&mut self.bits, EntryKind::Set, reader)
+        load::<Set>(&mut self.bits, reader)
     }
 }

@@ -65,10 +65,7 @@ impl Crdt for MaxRegister {
     }
 
     fn join(&mut self, other: &MaxRegister) {
-        let theirs = other.value();
-        if self.value() < theirs {
-            self.stored = theirs;
-        }
+        self.stored = self.value().max(other.value());
     }
 
     fn delta(
@@ -102,15 +99,7 @@ impl Crdt for MaxRegister {
 
     fn load(&mut self, reader: &mut Reader) -> Result<usize, Fault> {
         self.stored = 0;
-        let Some(word) = reader.look() else {
-            return Err(reader.fault(Refusal::Ended));
-        };
-        if !word.is(WordKind::Register) {
-            return Err(reader.fault(Refusal::Kind));
-        }
-        if !word.is_well_formed() {
-            return Err(reader.fault(Refusal::Form));
-        }
+        let word = reader.expect(WordKind::Register)?;
         self.stored = word.0;
         reader.step();
         Ok(reader.place)
