@@ -7,9 +7,7 @@ use either::{Either, Left, Right};
 use words::fault::Fault;
 use words::reader::Reader;
 use words::refusal::Refusal;
-
-// The most words of a message, and so of a record.
-const MOST: usize = 127;
+use words::word::LONGEST;
 
 #[derive(Clone, Copy)]
 pub struct Pair<L, R> {
@@ -78,13 +76,13 @@ impl<L: Crdt, R: Crdt> Crdt for Pair<L, R> {
     }
 
     fn size(&self) -> usize {
-        (self.left.size() + self.right.size()).min(MOST + 1)
+        (self.left.size() + self.right.size()).min(LONGEST + 1)
     }
 
     // Looks at the size of both sides first, so that a refusal has changed no word.
     fn write(&self, words: &mut [u32], place: usize) -> Result<usize, Refusal> {
         let all = self.left.size() + self.right.size();
-        if all > MOST {
+        if all > LONGEST {
             return Err(Refusal::Long);
         }
         if words.len().saturating_sub(place) < all {
