@@ -1,10 +1,11 @@
 // The record of a card family: blocks erased, spare blocks taken and returned, block groups retired, firmware seen.
 ghost use Rattle.std.specs.Prelude.{◌≡◌};
-ghost use Rattle.crdt.specs.declared.pair.Side.TheVariants.{Left, Right};
+ghost use Rattle.either.specs.declared.Either.TheVariants.{Left, Right};
 ghost use Rattle.cards.specs.Cards.{card_of, erased_total, net_of, retired_count, is_retired, firmware_of};
 
 use counters::g_counter::{Amount, GCounter};
-use crdt::pair::{Pair, Side};
+use crdt::pair::Pair;
+use either::{Either, Left, Right};
 use registers::gset::{GSet, Member};
 use registers::max_register::{MaxRegister, Revision};
 
@@ -12,41 +13,41 @@ use registers::max_register::{MaxRegister, Revision};
 pub type CardRecord = Pair<Pair<GCounter, Pair<GCounter, GCounter>>, Pair<GSet, MaxRegister>>;
 
 // A report on a card record.
-pub type CardReport = Side<Side<Amount, Side<Amount, Amount>>, Side<Member, Revision>>;
+pub type CardReport = Either<Either<Amount, Either<Amount, Amount>>, Either<Member, Revision>>;
 
 // Blocks were erased.
 pub fn erased(amount: Amount) -> CardReport
     ensures { result ≡ Left (Left amount) }
 {
-    Side::Left(Side::Left(amount))
+    Left(Left(amount))
 }
 
 // Spare blocks were taken.
 pub fn taken(amount: Amount) -> CardReport
     ensures { result ≡ Left (Right (Left amount)) }
 {
-    Side::Left(Side::Right(Side::Left(amount)))
+    Left(Right(Left(amount)))
 }
 
 // Spare blocks were returned.
 pub fn returned(amount: Amount) -> CardReport
     ensures { result ≡ Left (Right (Right amount)) }
 {
-    Side::Left(Side::Right(Side::Right(amount)))
+    Left(Right(Right(amount)))
 }
 
 // A block group was retired.
 pub fn retired(group: Member) -> CardReport
     ensures { result ≡ Right (Left group) }
 {
-    Side::Right(Side::Left(group))
+    Right(Left(group))
 }
 
 // A firmware revision was seen.
 pub fn firmware(revision: Revision) -> CardReport
     ensures { result ≡ Right (Right revision) }
 {
-    Side::Right(Side::Right(revision))
+    Right(Right(revision))
 }
 
 // How many blocks were erased.

@@ -1,29 +1,30 @@
 // The record of loans: how many were made, and which cards are out of the stock for good.
 ghost use Rattle.std.specs.Prelude.{◌≡◌};
-ghost use Rattle.crdt.specs.declared.pair.Side.TheVariants.{Left, Right};
+ghost use Rattle.either.specs.declared.Either.TheVariants.{Left, Right};
 ghost use Rattle.cards.specs.Cards.{loan_of, loans_total, is_marked, marked_count};
 
 use counters::g_counter::{Amount, GCounter};
-use crdt::pair::{Pair, Side};
+use crdt::pair::Pair;
+use either::{Either, Left, Right};
 use registers::gset::{GSet, Member};
 
 pub type LoanRecord = Pair<GCounter, GSet>;
 
 // A report on a loan record.
-pub type LoanReport = Side<Amount, Member>;
+pub type LoanReport = Either<Amount, Member>;
 
 // Loans were made.
 pub fn lent(amount: Amount) -> LoanReport
     ensures { result ≡ Left amount }
 {
-    Side::Left(amount)
+    Left(amount)
 }
 
 // A card was marked.
 pub fn marked(card: Member) -> LoanReport
     ensures { result ≡ Right card }
 {
-    Side::Right(card)
+    Right(card)
 }
 
 // How many loans were made.

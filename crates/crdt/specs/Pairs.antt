@@ -7,8 +7,8 @@
 --     then_right right x              a left that is read as x, and then a right from the words that are left
 use Rattle.std.specs.Prelude.{ℕ, List, ◌++◌, Ok, Err, Result}
 use Rattle.words.specs.Readings.{Reading, read, wrong}
-use Rattle.crdt.specs.declared.pair.Side.{Side}
-use Rattle.crdt.specs.declared.pair.Side.TheVariants.{Left, Right}
+use Rattle.either.specs.declared.Either.{Either}
+use Rattle.either.specs.declared.Either.TheVariants.{Left, Right}
 
 abbrev pub each : {V W : Type 0} → (V → V → V) → (W → W → W) → V × W → V × W → V × W
 each f g a b = (f a.0 b.0, g a.1 b.1)
@@ -21,7 +21,7 @@ abbrev pub on_right : {V W : Type 0} → V → Result W ℕ → Result (V × W) 
 on_right v (Ok w) = Ok (v, w)
 on_right v (Err n) = Err n
 
-abbrev pub side_reported : {V W R S : Type 0} → V → W → (V → ℕ → R → Result V ℕ) → (W → ℕ → S → Result W ℕ) → V × W → ℕ → Side R S → Result (V × W) ℕ
+abbrev pub side_reported : {V W R S : Type 0} → V → W → (V → ℕ → R → Result V ℕ) → (W → ℕ → S → Result W ℕ) → V × W → ℕ → Either R S → Result (V × W) ℕ
 side_reported v w f g a s (Left r) = on_left w (f a.0 s r)
 side_reported v w f g a s (Right r) = on_right v (g a.1 s r)
 

@@ -3,19 +3,11 @@ ghost use Rattle.crdt.specs.Pairs.{each, side_reported, side_written, then_right
 ghost use Rattle.crdt.specs.Sides.{pair_assoc, pair_comm, pair_idem, pair_neutral, pair_reads, pair_exact};
 
 use crate::kind::Crdt;
+use either::{Either, Left, Right};
 use words::fault::Fault;
 use words::reader::Reader;
 use words::refusal::Refusal;
-
-// The most words of a message, and so of a record.
-const MOST: usize = 127;
-
-// A report for the left or for the right of a pair.
-#[derive(Clone, Copy)]
-pub enum Side<L, R> {
-    Left(L),
-    Right(R),
-}
+use words::word::LONGEST;
 
 #[derive(Clone, Copy)]
 pub struct Pair<L, R> {
@@ -24,7 +16,8 @@ pub struct Pair<L, R> {
 }
 
 impl<L: Crdt, R: Crdt> Crdt for Pair<L, R> {
-    type Report = Side<L::Report, R::Report>;
+    // A report for the left or for the right of a pair.
+    type Report = Either<L::Report, R::Report>;
 
     ghost Value = { L.Crdt.Value × R.Crdt.Value };
 
@@ -67,15 +60,15 @@ impl<L: Crdt, R: Crdt> Crdt for Pair<L, R> {
     fn delta(
         &self,
         station: usize,
-        report: Side<L::Report, R::Report>,
+        report: Either<L::Report, R::Report>,
         into: &mut Pair<L, R>,
     ) -> Result<(), Refusal> {
         match report {
-            Side::Left(inner) => {
+            Left(inner) => {
                 into.right = R::bottom();
                 self.left.delta(station, inner, &mut into.left)
             }
-            Side::Right(inner) => {
+            Right(inner) => {
                 into.left = L::bottom();
                 self.right.delta(station, inner, &mut into.right)
             }
@@ -83,14 +76,13 @@ impl<L: Crdt, R: Crdt> Crdt for Pair<L, R> {
     }
 
     fn size(&self) -> usize {
-        let all = self.left.size() + self.right.size();
-        if all > MOST { MOST + 1 } else { all }
+        (self.left.size() + self.right.size()).min(LONGEST + 1)
     }
 
     // Looks at the size of both sides first, so that a refusal has changed no word.
     fn write(&self, words: &mut [u32], place: usize) -> Result<usize, Refusal> {
         let all = self.left.size() + self.right.size();
-        if all > MOST {
+        if all > LONGEST {
             return Err(Refusal::Long);
         }
         if words.len().saturating_sub(place) < all {
@@ -101,11 +93,10 @@ impl<L: Crdt, R: Crdt> Crdt for Pair<L, R> {
     }
 
     fn load(&mut self, reader: &mut Reader) -> Result<usize, Fault> {
-        if let Err(fault) = self.left.load(reader) {
-            self.right = R::bottom();
-            return Err(fault);
-        }
+        self.right = R::bottom();
+        self.left.load(reader)?;
         let answer = self.right.load(reader);
+        // `inspect_err` does not say that what its closure captures stays as it is where nothing is refused.
         if answer.is_err() {
             self.left = L::bottom();
         }

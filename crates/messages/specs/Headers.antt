@@ -26,7 +26,7 @@ message_of (header.Delta s p) c v = delta s p.from p.to v
 
 abbrev pub parts : Opened → Message (List ℕ) (List ℕ)
 parts (opened.Full s c r) = full s c.now r.now
-parts (opened.Delta s f t r) = delta s f t r.now
+parts (opened.Delta s p r) = delta s p.from p.to r.now
 
 abbrev pub open_told : Result Opened Fault → Result (Message (List ℕ) (List ℕ)) Told
 open_told (Ok o) = Ok (parts o)
@@ -34,4 +34,4 @@ open_told (Err f) = Err (told_fault f)
 
 abbrev pub Sound : Opened → Type 0
 Sound (opened.Full s c r) = s < 16
-Sound (opened.Delta s f t r) = (s < 16) × (f < t) × (t ≤ 65535)
+Sound (opened.Delta s p r) = (s < 16) × (p.from < p.to) × (p.to ≤ 65535)

@@ -7,6 +7,7 @@ ghost use Rattle.messages.specs.Headers.{open_told, parts, Sound};
 use crate::header::Header;
 use crate::opened::Opened;
 use crate::read::read_header;
+use counters::vector_clock::VectorClock;
 use crdt::kind::Crdt;
 use words::fault::{Fault, Layer};
 use words::reader::Reader;
@@ -22,7 +23,7 @@ pub fn open(words: &[u32]) -> Result<Opened<'_>, Fault>
         place: 0,
         layer: Layer::Message,
     };
-    let mut time = <counters::vector_clock::VectorClock as Crdt>::bottom();
+    let mut time = VectorClock::bottom();
     let header = read_header(&mut reader, &mut time)?;
     let end = reader.place;
     match header {
@@ -33,8 +34,7 @@ pub fn open(words: &[u32]) -> Result<Opened<'_>, Fault>
         }),
         Header::Delta { sender, span } => Ok(Opened::Delta {
             sender,
-            from: span.from,
-            to: span.to,
+            span,
             record: &words[end..],
         }),
     }

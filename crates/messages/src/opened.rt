@@ -1,4 +1,6 @@
 // An opened message. Its clock and its record are parts of the given words.
+use wire::span::Span;
+
 #[derive(Drop)]
 pub enum Opened<'a> {
     Full {
@@ -6,11 +8,9 @@ pub enum Opened<'a> {
         clock: &'a [u32],
         record: &'a [u32],
     },
-    // From is below to.
     Delta {
         sender: usize,
-        from: u32,
-        to: u32,
+        span: Span,
         record: &'a [u32],
     },
 }

@@ -21,7 +21,7 @@ pub(crate) fn read_header(reader: &mut Reader, clock: &mut VectorClock) -> Resul
     ensures clock { clock_of clock.new.counts ≡ clock_opened (opening (left reader.old)) }
     ensures reader { reader.new ≡ before reader.old (rest (opening (left reader.old))) }
 {
-    *clock = <VectorClock as Crdt>::bottom();
+    *clock = VectorClock::bottom();
     let word = head::check(reader)?;
     reader.step();
     let sender = word.index() as usize;

@@ -28,7 +28,24 @@ pub fn unpack<C: Crdt>(
     ensures exact { IfOk result (λ h. words.now ≡ packed C.Crdt (message_of h (clock_of clock.new.counts) (C.Crdt.value «record».new))) }
     ensures law { OneToOne C.Crdt }
 {
-    *record = C::bottom();
+    let answer = read_all(words, clock, record);
+    if answer.is_err() {
+        *clock = VectorClock::bottom();
+        *record = C::bottom();
+    }
+    answer
+}
+
+// Reads the header, and then the record to the end of the words.
+fn read_all<C: Crdt>(
+    words: &[u32],
+    clock: &mut VectorClock,
+    record: &mut C,
+) -> Result<Header, Fault>
+    ensures answer { header_told result ≡ unpack_answer (unpacked C.Crdt words.now) }
+    ensures clock { IfOk result (λ h. clock_of clock.new.counts ≡ clock_unpacked (unpacked C.Crdt words.now)) }
+    ensures value { IfOk result (λ h. C.Crdt.value «record».new ≡ record_unpacked C.Crdt.least (unpacked C.Crdt words.now)) }
+{
     let mut reader = Reader {
         words,
         place: 0,
@@ -36,21 +53,9 @@ pub fn unpack<C: Crdt>(
     };
     let header = read_header(&mut reader, clock)?;
     reader.layer = Layer::Record;
-    let end = match record.load(&mut reader) {
-        Ok(end) => end,
-        Err(fault) => {
-            *clock = <VectorClock as Crdt>::bottom();
-            return Err(fault);
-        }
-    };
+    let end = record.load(&mut reader)?;
     if end != words.len() {
-        *clock = <VectorClock as Crdt>::bottom();
-        *record = C::bottom();
-        return Err(Fault {
-            refusal: Refusal::Length,
-            place: 0,
-            layer: Layer::Message,
-        });
+        return Err(Fault::plain(Refusal::Length, Layer::Message));
     }
     Ok(header)
 }

@@ -2,20 +2,11 @@
 use Rattle.std.proofs.Common.{◌≡◌, ℕ, suc, ◌/◌, ◌%◌, ◌^◌, ◌<◌, ◌≤◌, Bool, true, false, cond, ◌&&◌, ◌||◌, eqb, ltb, leb, ◌⊎◌, List, [], ◌∷◌, length, drop, Ok, Err, Result, sym, refl, ap, ◌∙◌, subst, inl, inr, arith}
 use Rattle.std.proofs.lemmas.Nat.{shr-shr}
 use Rattle.std.proofs.lemmas.Bool.{cond-true, eq-eqb, eqb-true, ltb-true, leb-true, lt-ltb, le-leb, and_parts, and_from, or_cases, or_left, or_right}
-use Rattle.words.specs.Readings.{Reading, read, wrong}
+use Rattle.words.specs.Readings.{found, Reading, read, wrong}
 use Rattle.words.specs.Words.{kind, index, zero_run, formed, word_of}
+use Rattle.words.proofs.Forms.{well_formed, zero_bits}
 use Rattle.wire.specs.Messages.{head_word}
-use Rattle.wire.specs.Openings.{found, length_right, head_found, to_read, from_read, span_reading}
-
--- the form of a word, by its kind
-formed_at : (w k : ℕ) → kind w ≡ k → formed w ≡ eqb (w / 2 ^ (zero_run k).0 % 2 ^ (zero_run k).1) 0
-formed_at w k e = ap (λ j. eqb (w / 2 ^ (zero_run j).0 % 2 ^ (zero_run j).1) 0) e
-
-well_formed : (w k : ℕ) → kind w ≡ k → w / 2 ^ (zero_run k).0 % 2 ^ (zero_run k).1 ≡ 0 → formed w ≡ true
-well_formed w k e z = formed_at w k e ∙ eq-eqb (w / 2 ^ (zero_run k).0 % 2 ^ (zero_run k).1) 0 z
-
-zero_bits : (w k : ℕ) → kind w ≡ k → formed w ≡ true → w / 2 ^ (zero_run k).0 % 2 ^ (zero_run k).1 ≡ 0
-zero_bits w k e f = eqb-true (w / 2 ^ (zero_run k).0 % 2 ^ (zero_run k).1) 0 (sym (formed_at w k e) ∙ f)
+use Rattle.wire.specs.Openings.{length_right, head_found, to_read, from_read, span_reading}
 
 -- a head's word has its fields
 module _ (k s n : ℕ) (station : s < 16) (low : n < 256) where

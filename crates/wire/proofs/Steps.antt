@@ -1,6 +1,5 @@
 -- A reader on its way over words. Assumes nothing.
-use Rattle.std.proofs.Common.{◌≡◌, ℕ, ◌+◌, ◌-◌, ◌≤◌, min, cond, eqb, List, ◌∷◌, ◌++◌, length, drop, Ok, Err, sym, refl, ap, ◌∙◌, subst, arith, length-append, length-drop, drop-drop}
-use lib.Seq.{drop-append_seam}
+use Rattle.std.proofs.Common.{◌≡◌, ℕ, ◌+◌, ◌-◌, ◌≤◌, min, cond, eqb, List, ◌∷◌, length, Ok, Err, sym, refl, ap, ◌∙◌, subst, arith, length-drop}
 use Rattle.words.specs.declared.reader.Reader.{Reader}
 use Rattle.words.specs.Readings.{Reading, read, wrong, left, stepped, before, fault_at, load_answer}
 use Rattle.words.proofs.Walks.{same_place, left_more}
@@ -45,19 +44,6 @@ module _ (start r : Reader) (ws : List ℕ) (at : At start r ws) where
       let room = at.room in
       let m : r.place + length (left r) - length more ≡ start.place + length (left start) - length more = omega arith in
       λ i. record { words = (s i).words; place = m i; layer = (s i).layer }
-
-  pub at_read : (front more : List ℕ) → ws ≡ front ++ more → At start (before r more) more
-  at_read front more e =
-      let a = ap length at.sees in
-      let b = ap length e in
-      let d = length-append front more in
-      let room = at.room in
-      let n : r.place + length (left r) - length more ≡ r.place + length front = omega arith in
-      record {
-        stands = at_before more;
-        sees = ap (λ k. drop k r.words.now) n ∙ sym (drop-drop (length front) r.place r.words.now) ∙ ap (drop (length front)) (at.sees ∙ e) ∙ drop-append_seam front more;
-        room = omega arith;
-      }
 
   -- the answers of what it reads from there are those of what start would
   pub at_fault : (n : ℕ) → fault_at r n ≡ fault_at (before start ws) n

@@ -1,40 +1,18 @@
 -- The ways of opening and unpacking a message. Assumes nothing.
-use Rattle.std.proofs.Common.{◌≡◌, ℕ, suc, ◌+◌, ◌-◌, ◌%◌, ◌^◌, ◌<◌, ◌≤◌, Bool, true, false, cond, ◌&&◌, ◌||◌, eqb, leb, ◌⊎◌, List, [], ◌∷◌, ◌++◌, length, take, drop, Ok, Err, Result, sym, refl, ap, ◌∙◌, inl, inr, ⊎_elim, arith, length-append, length-drop, take_at, drop_at}
+use Rattle.std.proofs.Common.{◌≡◌, ℕ, suc, ◌+◌, ◌-◌, ◌%◌, ◌^◌, ◌<◌, ◌≤◌, true, false, eqb, List, [], ◌∷◌, ◌++◌, length, take, drop, Ok, Err, Result, sym, refl, ap, ◌∙◌, arith, length-append, length-drop, take_at, drop_at}
 use Rattle.std.proofs.lemmas.List.{take_rest}
-use Rattle.std.proofs.lemmas.Bool.{cond-true, cond-false, eq-eqb, le-leb, lt-ltb, le-ltb, eqb-true, leb-true, and_parts, and_from, or_left, or_right, cases_Bool}
+use Rattle.std.proofs.lemmas.Bool.{cond-true, cond-false, lt-ltb, le-ltb}
 use Rattle.words.specs.declared.fault.Layer.TheVariants as layer
 use Rattle.words.specs.declared.reader.Reader.{Reader}
-use Rattle.words.specs.Readings.{Reading, read, wrong, read_or, rest, Told, left, stepped, before, fault_at, load_answer}
-use Rattle.words.specs.Words.{kind, index, formed, word_of}
+use Rattle.words.specs.Readings.{found, found_at, Reading, read, wrong, read_or, rest, Told, left, stepped, before, fault_at, load_answer}
+use Rattle.words.specs.Words.{kind, index, word_of}
 use Rattle.entries.specs.Rows.{empty}
-use Rattle.wire.specs.Messages.{Message, full, delta, sender_of, Clock, clock_written, packed_by, head_word}
-use Rattle.wire.specs.Openings.{found, length_right, head_found, to_read, from_read, span_reading, mapped, full_from, delta_from, after_head, head_read, opening, fault_in, left_over, with_record, completed, loaded_by, unpacked_by, clock_reading, record_of}
-use Rattle.wire.specs.Answers.{found_at, reading_answer, bare, header_answer, clock_in, clock_opened, open_answer}
+use Rattle.wire.specs.Messages.{Message, full, delta, Clock, clock_written, packed_by, head_word}
+use Rattle.wire.specs.Openings.{head_found, to_read, from_read, span_reading, mapped, full_from, delta_from, after_head, head_read, opening, fault_in, left_over, with_record, completed, loaded_by, unpacked_by, clock_reading, record_of}
+use Rattle.wire.specs.Answers.{reading_answer, bare, header_answer, clock_in, clock_opened, open_answer}
 use Rattle.wire.proofs.Heads.{was_found, head_was}
 use Rattle.wire.proofs.Laws.{parts}
 use Rattle.wire.proofs.Steps.{At, at_start, at_step, at_before, at_moved}
-
--- the last two tests of a head
-module _ (w : ℕ) (ws : List ℕ) (is : (eqb (kind w) 1 || eqb (kind w) 2) ≡ true) (form : formed w ≡ true) where
-  head_sized : (b : Bool) → length_right (w % 2 ^ 8) (suc (length ws)) ≡ b → head_found (w ∷ ws) ≡ cond b (Ok w) (Err 13)
-  head_sized b e = cond-true _ _ _ is ∙ cond-true _ _ _ form ∙ ap (λ t. cond t (Ok w) (Err 13)) e
-
-  pub head_right : w % 2 ^ 8 ≡ suc (length ws) → 2 ≤ w % 2 ^ 8 → w % 2 ^ 8 ≤ 127 → head_found (w ∷ ws) ≡ Ok w
-  head_right all low few = head_sized true (and_from _ _ (eq-eqb (w % 2 ^ 8) (suc (length ws)) all) (and_from _ _ (le-leb 2 (w % 2 ^ 8) low) (le-leb (w % 2 ^ 8) 127 few)))
-
-  pub head_false : (w % 2 ^ 8 ≡ suc (length ws) → 2 ≤ w % 2 ^ 8 → w % 2 ^ 8 ≤ 127 → ⊥) → head_found (w ∷ ws) ≡ Err 13
-  head_false never = ⊎_elim
-      (λ (t : length_right (w % 2 ^ 8) (suc (length ws)) ≡ true).
-      let a = and_parts (eqb (w % 2 ^ 8) (suc (length ws))) (leb 2 (w % 2 ^ 8) && leb (w % 2 ^ 8) 127) t in
-      let b = and_parts (leb 2 (w % 2 ^ 8)) (leb (w % 2 ^ 8) 127) a.1 in
-      absurd (never (eqb-true (w % 2 ^ 8) (suc (length ws)) a.0) (leb-true 2 (w % 2 ^ 8) b.0) (leb-true (w % 2 ^ 8) 127 b.1)))
-      (λ (f : length_right (w % 2 ^ 8) (suc (length ws)) ≡ false). head_sized false f)
-      (cases_Bool (length_right (w % 2 ^ 8) (suc (length ws))))
-
--- a head is of one of two kinds
-pub either_head : (w : ℕ) (a b : Bool) → a ≡ eqb (kind w) 1 → b ≡ eqb (kind w) 2 → ((a ≡ false) × (b ≡ true)) ⊎ (a ≡ true) → (eqb (kind w) 1 || eqb (kind w) 2) ≡ true
-either_head w a b p q (inl h) = or_right (eqb (kind w) 1) (eqb (kind w) 2) (sym q ∙ h.1)
-either_head w a b p q (inr h) = or_left (eqb (kind w) 1) (eqb (kind w) 2) (sym p ∙ h)
 
 -- what a step found, from what it answers
 pub found_ok : (r : Reader) (x : Result ℕ ℕ) (w : ℕ) → Ok w ≡ found_at r x → x ≡ Ok w
@@ -163,9 +141,6 @@ module _ (ws : List ℕ) where
       pub end_low : 1 ≤ end
       end_low = let h = more_fewer in omega arith
 
-      pub end_high : end ≤ length ws
-      end_high = omega arith
-
   pub clock_is : (s : ℕ) (c : Clock) (more : List ℕ) → opening ws ≡ read (full s c tt) more → (end : ℕ) → end ≡ length ws - length more → take (end - 1) (drop 1 ws) ≡ clock_written c
   clock_is s c more o end is =
       let p = (parts ws (full s c tt) more o).0 in
@@ -223,16 +198,6 @@ module _ (ws : List ℕ) (m : Message Clock (Unit {0})) (more : List ℕ) (o : o
   opened_delta s f t b =
       let e = o ∙ ap (λ x. read x more) (bare_delta m s f t b) in
       ap (λ xs. Ok (delta s f t xs)) record_part ∙ sym (ap (open_answer ws) e)
-
-  sender_with : (x : Message Clock (Unit {0})) (b : Message (Unit {0}) (Unit {0})) → b ≡ bare x → sender_of b ≡ sender_of (with_record x more)
-  sender_with (full s c u) b e = ap sender_of e
-  sender_with (delta s f t u) b e = ap sender_of e
-
-  pub sender_low : (b : Message (Unit {0}) (Unit {0})) → b ≡ bare m → sender_of b < 16
-  sender_low b e =
-      let p = sender_with m b e in
-      let q = (parts ws m more o).1.station in
-      omega arith
 
 -- the parts of an opened message are all of its words
 opened_by : (ws : List ℕ) (x : Reading (Message Clock (Unit {0}))) (p : Message (List ℕ) (List ℕ)) → opening ws ≡ x → Ok p ≡ open_answer ws x → ws ≡ packed_by (λ xs. xs) (λ xs. xs) p

@@ -1,7 +1,5 @@
 -- What the steps of opening a message answer. Assumes nothing.
 --     word_told r          an answer that is a word, with the number in the place of the refusal
---     word_read r          the same, where a fault is told
---     found_at r x         what a reader that found x at its place answers
 --     reading_answer r x   what a reader that read x answers
 --     bare m               a message without its clock and its record
 --     header_answer r x    what a reader that opened a message as x answers
@@ -13,12 +11,11 @@
 --     clock_unpacked x     the clock of an unpacked message, empty where it has none
 --     record_unpacked d x  the record of an unpacked message, or d
 use Rattle.std.specs.Prelude.{ℕ, List, Ok, Err, Result}
-use Rattle.words.specs.declared.fault.Fault.{Fault}
 use Rattle.words.specs.declared.fault.Layer.TheVariants as layer
 use Rattle.words.specs.declared.reader.Reader.{Reader}
 use Rattle.words.specs.declared.refusal.Refusal.{Refusal}
 use Rattle.words.specs.declared.word.Word.{Word}
-use Rattle.words.specs.Readings.{Reading, read, wrong, Told, told_fault, before, fault_at}
+use Rattle.words.specs.Readings.{Reading, read, wrong, Told, before, fault_at}
 use Rattle.words.specs.Refusals.{number_of}
 use Rattle.entries.specs.Rows.{empty}
 use Rattle.wire.specs.Messages.{Message, full, delta, Clock, clock_written, packed_by}
@@ -27,14 +24,6 @@ use Rattle.wire.specs.Openings.{fault_in, record_of}
 abbrev pub word_told : Result Word Refusal → Result ℕ ℕ
 word_told (Ok w) = Ok w.0
 word_told (Err e) = Err (number_of e)
-
-abbrev pub word_read : Result Word Fault → Result ℕ Told
-word_read (Ok w) = Ok w.0
-word_read (Err f) = Err (told_fault f)
-
-abbrev pub found_at : Reader → Result ℕ ℕ → Result ℕ Told
-found_at r (Ok w) = Ok w
-found_at r (Err n) = Err (fault_at r n)
 
 abbrev pub reading_answer : {X : Type 0} → Reader → Reading X → Result X Told
 reading_answer r (read x ws) = Ok x

@@ -1,5 +1,4 @@
 -- What words open as, and what they say. Assumes nothing.
---     found k ws                  the word of kind k at the front of words, or the number of its refusal
 --     head_found ws               the head at the front of all the words of a message, or the number of its refusal
 --     span_reading ws             the ends of a span at the front of words
 --     opening ws                  a message without its record, and the words that are left for the record
@@ -10,16 +9,12 @@
 use Rattle.std.specs.Prelude.{◌≡◌, ℕ, suc, ◌-◌, ◌%◌, ◌^◌, Bool, cond, ◌&&◌, ◌||◌, List, [], ◌∷◌, length, drop, Ok, Err, Result, ◌==◌, nat_le, nat_lt}
 use Rattle.words.specs.declared.fault.Layer.{Layer}
 use Rattle.words.specs.declared.fault.Layer.TheVariants as layer
-use Rattle.words.specs.Readings.{Reading, read, wrong, Told}
+use Rattle.words.specs.Readings.{found, Reading, read, wrong, Told}
 use Rattle.words.specs.Words.{kind, index, formed}
 use Rattle.words.specs.Writes.{most}
 use Rattle.crdt.specs.declared.kind.Crdt.{Ghosts}
 use Rattle.entries.specs.Entries.{row_reading}
 use Rattle.wire.specs.Messages.{Message, full, delta, Clock, packed, Sendable}
-
-abbrev pub found : ℕ → List ℕ → Result ℕ ℕ
-found k [] = Err 12
-found k (w ∷ ws) = cond (kind w == k) (cond (formed w) (Ok w) (Err 11)) (Err 10)
 
 -- the length that a head gives, of so many words
 abbrev pub length_right : ℕ → ℕ → Bool

@@ -1,20 +1,18 @@
 // The head of a message: its kind, its sender and the number of its words.
 ghost use Rattle.std.specs.Prelude.{◌≡◌};
-ghost use Rattle.words.specs.Readings.{left};
+ghost use Rattle.words.specs.Readings.{left, found_at, word_read};
 ghost use Rattle.words.specs.Words.{kind_number};
 ghost use Rattle.wire.specs.Openings.{head_found};
 ghost use Rattle.wire.specs.Packs.{head_made};
-ghost use Rattle.wire.specs.Answers.{word_told, word_read, found_at};
+ghost use Rattle.wire.specs.Answers.{word_told};
 
 use words::fault::Fault;
 use words::reader::Reader;
 use words::refusal::Refusal;
-use words::word::{Word, WordKind};
+use words::word::{LONGEST, Word, WordKind};
 
-// The fewest and the most words of a message.
+// The fewest words of a message.
 const FEWEST: usize = 2;
-
-const MOST: usize = 127;
 
 // The head of a message of so many words, where that many are given; or why there is none.
 pub fn make(kind: WordKind, sender: usize, size: usize, room: usize) -> Result<Word, Refusal>
@@ -23,7 +21,7 @@ pub fn make(kind: WordKind, sender: usize, size: usize, room: usize) -> Result<W
     if sender > 15 {
         return Err(Refusal::Station);
     }
-    if size > MOST {
+    if size > LONGEST {
         return Err(Refusal::Long);
     }
     if size > room {
@@ -36,19 +34,16 @@ pub fn make(kind: WordKind, sender: usize, size: usize, room: usize) -> Result<W
 pub fn check(reader: &Reader) -> Result<Word, Fault>
     ensures { word_read result ≡ found_at reader.now (head_found (left reader.now)) }
 {
-    let Some(word) = reader.look() else {
-        return Err(reader.fault(Refusal::Ended));
-    };
-    let full = word.is(WordKind::FullHead);
-    let delta = word.is(WordKind::DeltaHead);
-    if !full && !delta {
+    let word = reader.look().ok_or(reader.fault(Refusal::Ended))?;
+    if !word.is(WordKind::FullHead) && !word.is(WordKind::DeltaHead) {
         return Err(reader.fault(Refusal::Kind));
     }
     if !word.is_well_formed() {
         return Err(reader.fault(Refusal::Form));
     }
     let size = (word.0 % 256) as usize;
-    if size != reader.words.len() - reader.place || size < FEWEST || size > MOST {
+    let given = reader.words.len() - reader.place;
+    if size != given || !(FEWEST..=LONGEST).contains(&size) {
         return Err(reader.fault(Refusal::Length));
     }
     Ok(word)

@@ -2,3 +2,4 @@ pub mod Walks
 pub mod Masks
 pub mod Writes
 pub mod Resumes
+pub mod Forms

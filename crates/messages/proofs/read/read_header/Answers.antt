@@ -1,27 +1,14 @@
 use Rattle.std.proofs.Common.{Ok, Err, sym, ap, ◌∙◌}
 use Rattle.std.proofs.lemmas.Result.{err_from_is_err_and}
-use Rattle.words.specs.Readings.{rest, left, before, fault_at}
+use Rattle.words.specs.Readings.{rest, left, before}
 use Rattle.words.specs.Words.{index}
 use Rattle.wire.specs.Messages.{full, delta}
-use Rattle.wire.specs.Openings.{head_found, head_read, span_reading, full_from, delta_from, clock_reading}
+use Rattle.wire.specs.Openings.{head_found, span_reading, full_from, delta_from, clock_reading}
 use Rattle.wire.specs.Answers.{header_answer, clock_opened}
-use Rattle.wire.proofs.Steps.{at_start, at_before}
-use Rattle.wire.proofs.Ways.{found_ok, found_err, at_body, as_full, as_delta, rest_mapped, full_broken, full_done, delta_broken, delta_done, full_clock, delta_clock}
+use Rattle.wire.proofs.Steps.{at_before}
+use Rattle.wire.proofs.Ways.{found_ok, at_body, as_full, as_delta, rest_mapped, full_broken, full_done, delta_broken, delta_done, full_clock, delta_clock}
 use Rattle.messages.specs.Headers.{header_told}
 use Rattle.messages.proofs.read.read_header.Goals as goal
-
-pub returns-in_err-word : goal.returns-in_err-word
-returns-in_err-word c =
-    let start = c.args.reader.now in
-    let p = err_from_is_err_and c.from_residual.result c.from_residual.ensures.1 in
-    let q = found_err start (head_found (left start)) _ c.in_err-word.ensures in
-    let e = ap (head_read clock_reading (left start)) q.1 in
-    let stands = (at_start start).stands in
-    record {
-      answer = ap header_told (p.1 ∙ ap Err p.2) ∙ ap Err (q.2 ∙ ap (λ r. fault_at r q.0) stands) ∙ sym (ap (header_answer start) e);
-      clock = c.bottom.ensures ∙ sym (ap clock_opened e);
-      reader = stands ∙ sym (ap (λ x. before start (rest x)) e);
-    }
 
 pub returns-in_err-load : goal.returns-in_err-load
 returns-in_err-load c =

@@ -1,8 +1,8 @@
-use Rattle.std.proofs.Common.{◌%◌, ◌^◌, ◌<◌, ltb, leb, Ok, Err, sym, ap, ◌∙◌, arith}
+use Rattle.std.proofs.Common.{◌≡◌, ◌%◌, ◌^◌, ◌<◌, ltb, leb, IfSome, Ok, Err, sym, ap, ◌∙◌, subst, arith}
+use Rattle.std.specs.Option.{ok_or}
 use Rattle.std.proofs.lemmas.Result.{err_from_is_err_and}
 use Rattle.std.proofs.lemmas.Bool.{lt-ltb, le-leb, and_from, true≢false}
-use Rattle.words.specs.Readings.{rest, left, before}
-use Rattle.wire.specs.Openings.{found}
+use Rattle.words.specs.Readings.{found, rest, left, before}
 use Rattle.wire.specs.Answers.{reading_answer}
 use Rattle.wire.proofs.Steps.{at_fault}
 use Rattle.wire.proofs.Ways.{found_ok, found_err, at_to, to_wrong, to_low, to_high, at_past}
@@ -23,8 +23,8 @@ returns-in_err-to c =
       reader = at.stands ∙ sym (ap (λ x. before start (rest x)) e);
     }
 
-pub returns-in_default : goal.returns-in_default
-returns-in_default c =
+pub returns-in_err-span : goal.returns-in_err-span
+returns-in_err-span c =
     let start = c.args.reader.now in
     let s = c.step.new.self in
     let from = found_ok start (found 3 (left start)) _ c.in_ok-from.ensures in
@@ -32,9 +32,11 @@ returns-in_default c =
     let at = at_to start s _ from c.step.ensures in
     let f = c.in_ok-from.from.0 % 2 ^ 16 in
     let t = c.in_ok-to.to.0 % 2 ^ 16 in
-    let e = to_low start s _ from c.step.ensures _ to (λ (h : f < t). true≢false (sym (and_from (ltb f t) (leb t 65535) (lt-ltb f t h) (le-leb t 65535 (omega arith))) ∙ sym c.in_default.ensures.some)) in
+    let e = to_low start s _ from c.step.ensures _ to (λ (h : f < t). true≢false (sym (and_from (ltb f t) (leb t 65535) (lt-ltb f t h) (le-leb t 65535 (omega arith))) ∙ sym c.new.ensures.some ∙ sym c.in_err-span.ensures.variant)) in
+    let p = err_from_is_err_and c.from_residual-in_err-span.result c.from_residual-in_err-span.ensures.1 in
+    let fault : Err c.in_err-span.field-0.0 ≡ Err c.fault.result = c.in_err-span.ensures.value ∙ ap (λ o. ok_or o c.fault.result) c.in_err-span.ensures.ok_part in
     record {
-      answer = ap Err (c.fault.ensures ∙ at_fault start s _ at 11) ∙ sym (ap (reading_answer start) e);
+      answer = ap span_told (p.1 ∙ ap Err p.2 ∙ fault) ∙ ap Err (c.fault.ensures ∙ at_fault start s _ at 11) ∙ sym (ap (reading_answer start) e);
       reader = at.stands ∙ sym (ap (λ x. before start (rest x)) e);
     }
 
@@ -44,13 +46,14 @@ returns c =
     let s = c.step.new.self in
     let from = found_ok start (found 3 (left start)) _ c.in_ok-from.ensures in
     let to = found_ok s (found 4 (left s)) _ c.in_ok-to.ensures in
-    let ends = c.in-Some.ensures.value in
+    let span = c.in_ok-span.span in
     let f = c.in_ok-from.from.0 % 2 ^ 16 in
     let t = c.in_ok-to.to.0 % 2 ^ 16 in
-    let high : f < t = omega (arith, c.in-Some.span.rises.0, ends.0, ends.1) in
+    let ends = subst (λ o. IfSome o (λ s. (s.from ≡ f) × (s.to ≡ t))) c.in_ok-span.ensures.ok_part c.new.ensures.value in
+    let high : f < t = omega (arith, span.rises.0, ends.0, ends.1) in
     let e = to_high start s _ from c.step.ensures _ to high in
     let at = at_past start s _ from c.step.ensures _ to c.step-2.new.self c.step-2.ensures in
     record {
-      answer = ap (λ n. Ok (n, c.in-Some.span.to)) ends.0 ∙ ap (λ n. Ok (f, n)) ends.1 ∙ sym (ap (reading_answer start) e);
+      answer = ap (λ n. Ok (n, span.to)) ends.0 ∙ ap (λ n. Ok (f, n)) ends.1 ∙ sym (ap (reading_answer start) e);
       reader = at.stands ∙ sym (ap (λ x. before start (rest x)) e);
     }

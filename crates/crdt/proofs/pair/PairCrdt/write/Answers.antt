@@ -3,8 +3,8 @@ use Rattle.words.specs.Writes.{write_leaves}
 use Rattle.words.proofs.Writes.{answer_long, answer_short, answer_fits, leaves_long, leaves_short, leaves_both, length_leaves}
 use Rattle.crdt.proofs.pair.PairCrdt.write.Goals as goal
 
-pub returns-then-all-gt-MOST : goal.returns-then-all-gt-MOST
-returns-then-all-gt-MOST g c =
+pub returns-then-all-gt-LONGEST : goal.returns-then-all-gt-LONGEST
+returns-then-all-gt-LONGEST g c =
     let a = g.L.Crdt.written (g.L.Crdt.value c.args.self.now.left) in
     let b = g.R.Crdt.written (g.R.Crdt.value c.args.self.now.right) in
     let all = length-append a b in
