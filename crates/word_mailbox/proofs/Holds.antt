@@ -3,12 +3,12 @@ use Rattle.std.proofs.Common.{◌≡◌, ℕ, ◌+◌, ◌-◌, ◌%◌, ◌<◌
 use lib.Seq.{paste}
 use Rattle.std.specs.List.{remove, copy_within, AllByRecursion}
 use Rattle.std.proofs.lemmas.Bool.{le-leb}
-use Rattle.std.proofs.lemmas.List.{length-set, length-drop}
+use Rattle.std.proofs.lemmas.List.{length-set}
 use Rattle.std.proofs.lemmas.List.Edits.{length-paste}
 use Rattle.std.proofs.lemmas.Slice.{put_mid-paste}
 use borrow.Rule.Slice.PartMut.{put_mid}
-use Rattle.mailboxes.specs.Mailboxes.{Message, counted}
-use Rattle.layouts.specs.Rows.{head, laid, parsed, sound, row_put, row_discard, sized_from}
+use Rattle.mailboxes.specs.Mailboxes.{Message, sized, counted}
+use Rattle.layouts.specs.Rows.{head, laid, parsed, sound, row_put, row_discard, row_sizes}
 use Rattle.layouts.proofs.Rows
 use Rattle.word_mailbox.specs.declared.WordMailbox.{WordMailbox}
 use Rattle.word_mailbox.specs.Stores.{memory_of, waiting_of, takes_of}
@@ -47,9 +47,8 @@ module _ (t : WordMailbox) where
         short = m.1;
       }
 
-  pub takes_is : (n : ℕ) → 1 ≤ n → n ≤ 127 → length (memory_of t) ≤ 4096 → leb (t.used + n + 1) (length (memory_of t)) ≡ takes_of t n
-  takes_is n a b l =
-      rw (sized_from n a b, le-leb (length (memory_of t)) 4096 l) (ap (λ x. leb (x + n + 1) (length (memory_of t))) used_is)
+  pub takes_is : (n : ℕ) → sized n ≡ true → length (memory_of t) ≤ 4096 → leb (t.used + n + 1) (length (memory_of t)) ≡ takes_of t n
+  takes_is n s l = rw (s, le-leb (length (memory_of t)) 4096 l) (ap (λ x. leb (x + n + 1) (length (memory_of t))) used_is)
 
   pub takes_room : (n : ℕ) → takes_of t n ≡ true → (length (memory_of t) ≤ 4096) × (t.used + n + 1 ≤ length (memory_of t))
   takes_room n e = let r = Rows.row_room (length (memory_of t)) (waiting_of t) n e in (r.0, omega (arith, used_is, r.1))
@@ -59,7 +58,7 @@ module _ (t : WordMailbox) where
   message_at k p q h p-is q-is = Rows.words_at (memory_of t) t.used t.held t.room t.messages k h p (q - (p + 1)) p-is (omega arith)
 
   -- a message put behind the used words
-  module _ (m part : List ℕ) (h k : ℕ) (fits : takes_of t (length m) ≡ true) (short : (1 ≤ length m) × (length m ≤ 127)) (h-is : h ≡ head (length m)) (k-is : k ≡ length m) (part-is : part ≡ m) where
+  module _ (m part : List ℕ) (h k : ℕ) (fits : takes_of t (length m) ≡ true) (h-is : h ≡ head (length m)) (k-is : k ≡ length m) (part-is : part ≡ m) where
     abbrev new : List ℕ
     new = put_mid (t.used + 1) k (set (memory_of t) t.used h) part
 
@@ -68,8 +67,11 @@ module _ (t : WordMailbox) where
         put_mid-paste (t.used + 1) k (set (memory_of t) t.used h) part m (length m) part-is (sym k-is) refl
         ∙ ap (λ x. paste (set (memory_of t) t.used x) (t.used + 1) m (length m)) h-is
 
-    put_laid : take (t.used + length m + 1) new ≡ laid (waiting_of t ++ (m ∷ []))
-    put_laid = Rows.put_laid (memory_of t) t.used t.held t.room t.messages m new (takes_room (length m) fits).1 is
+    short : (1 ≤ length m) × (length m ≤ 127)
+    short = row_sizes (length (memory_of t)) (waiting_of t) (length m) fits
+
+    put_laid : take (t.used + (length m + 1)) new ≡ laid (waiting_of t ++ (m ∷ []))
+    put_laid = ap (λ x. take x new) (let e : t.used + (length m + 1) ≡ t.used + length m + 1 = omega arith in e) ∙ Rows.put_laid (memory_of t) t.used t.held t.room t.messages m new (takes_room (length m) fits).1 is
 
     put_all : AllByRecursion Message (waiting_of t ++ (m ∷ []))
     put_all = Rows.put_all (memory_of t) t.used t.held t.room t.messages m short.0 short.1
@@ -77,13 +79,13 @@ module _ (t : WordMailbox) where
     put_count : t.held + 1 ≡ length (waiting_of t ++ (m ∷ []))
     put_count = Rows.put_count (memory_of t) t.used t.held t.room t.messages m
 
-    pub put_waiting : parsed (t.held + 1) (take (t.used + length m + 1) new) ≡ waiting_of t ++ (m ∷ [])
-    put_waiting = Rows.parsed_is (t.held + 1) (take (t.used + length m + 1) new) (waiting_of t ++ (m ∷ [])) put_count put_laid put_all
+    pub put_waiting : parsed (t.held + 1) (take (t.used + (length m + 1)) new) ≡ waiting_of t ++ (m ∷ [])
+    put_waiting = Rows.parsed_is (t.held + 1) (take (t.used + (length m + 1)) new) (waiting_of t ++ (m ∷ [])) put_count put_laid put_all
 
-    pub put_sound : sound (t.held + 1) (take (t.used + length m + 1) new) ≡ true
-    put_sound = Rows.sound_is (t.held + 1) (take (t.used + length m + 1) new) (waiting_of t ++ (m ∷ [])) put_count put_laid put_all
+    pub put_sound : sound (t.held + 1) (take (t.used + (length m + 1)) new) ≡ true
+    put_sound = Rows.sound_is (t.held + 1) (take (t.used + (length m + 1)) new) (waiting_of t ++ (m ∷ [])) put_count put_laid put_all
 
-    pub put_room : t.used + length m + 1 ≤ length new
+    pub put_room : t.used + (length m + 1) ≤ length new
     put_room =
         let r = (takes_room (length m) fits).1 in
         let w = set (memory_of t) t.used (head (length m)) in

@@ -6,10 +6,11 @@ ghost use Rattle.layouts.specs.Rows.{laid, row_put, row_discard};
 ghost use Rattle.word_mailbox.specs.Stores.{memory_of, waiting_of, takes_of, kept};
 
 use crate::WordMailbox;
-use mailboxes::mailbox::Mailbox;
+use crate::open::MOST;
+use mailboxes::mailbox::{Mailbox, is_sized};
 use std::ops::Range;
 use words::refusal::Refusal;
-use words::word::{Word, WordKind};
+use words::word::{LONGEST, Word, WordKind};
 
 impl WordMailbox<'_> {
     // Where the page head of message k stands, or where the used words end.
@@ -42,18 +43,13 @@ impl<'a> Mailbox for WordMailbox<'a> {
 
     ghost takes = { takes_of };
 
-    ghost lawful = { kept };
-
     fn count(&self) -> u16 {
         self.held as u16
     }
 
     fn fits(&self, n: usize) -> bool {
-        if n == 0 || n > 127 {
-            return false;
-        }
         let all = self.words.len();
-        all <= 4096 && self.used + n + 1 <= all
+        is_sized(n) && all <= MOST && self.used + n + 1 <= all
     }
 
     fn put(&mut self, message: &[u32]) -> Result<(), Refusal>
@@ -64,23 +60,23 @@ impl<'a> Mailbox for WordMailbox<'a> {
         ensures lender { self.new.words.ghost_name ≡ self.old.words.ghost_name }
     {
         let n = message.len();
-        if n == 0 || n > 127 {
+        if !is_sized(n) {
             return Err(Refusal::Long);
         }
-        if !(*self).fits(n) {
+        if !self.fits(n) {
             return Err(Refusal::Full);
         }
         let used = self.used;
         let head = Word::new(WordKind::PageHead, n as u32);
         self.words[used] = head.0;
         self.words[used + 1..used + 1 + n].copy_from_slice(message);
-        self.used = used + n + 1;
+        self.used += n + 1;
         self.held += 1;
         Ok(())
     }
 
     fn read(&self, k: usize, words: &mut [u32]) -> Result<usize, Refusal> {
-        if words.len() < 127 {
+        if words.len() < LONGEST {
             return Err(Refusal::Room);
         }
         if k >= self.held {
@@ -108,4 +104,6 @@ impl<'a> Mailbox for WordMailbox<'a> {
         self.held -= 1;
         Ok(())
     }
+
+    ghost lawful = { kept };
 }

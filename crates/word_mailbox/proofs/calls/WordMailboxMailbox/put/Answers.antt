@@ -1,6 +1,5 @@
 use Rattle.std.proofs.Common.{length, sym, arith}
 use Rattle.std.proofs.lemmas.List.{length-set}
-use Rattle.layouts.specs.Rows.{sized_from}
 use Rattle.layouts.proofs.Calls.{put_there}
 use Rattle.word_mailbox.specs.Stores.{waiting_of, takes_of}
 use Rattle.word_mailbox.proofs.Holds.{held_few, takes_room, put_waiting, put_sound, put_room, put_memory}
@@ -22,9 +21,9 @@ invariant_of-self-2 c =
     let t = c.args.self.now in
     let m = c.args.message.now in
     let f = sym c.if-not-fits.ensures in record {
-      room = put_room t m _ _ _ f (omega arith, omega arith) c.new-head.ensures (omega arith) cc;
+      room = put_room t m _ _ _ f c.new-head.ensures (omega arith) cc;
       small = let r = takes_room t (length m) f in omega (arith, r);
-      messages = put_sound t m _ _ _ f (omega arith, omega arith) c.new-head.ensures (omega arith) cc;
+      messages = put_sound t m _ _ _ f c.new-head.ensures (omega arith) cc;
     }
 
 pub returns-clause-after : goal.returns-clause-after
@@ -32,8 +31,8 @@ returns-clause-after c =
     let t = c.args.self.now in
     let m = c.args.message.now in
     let f = sym c.if-not-fits.ensures in
-    (put_there (takes_of t (length m)) m (waiting_of t) _ (sized_from (length m) (omega arith) (omega arith)) f (put_waiting t m _ _ _ f (omega arith, omega arith) c.new-head.ensures (omega arith) cc)).1
+    (put_there (takes_of t (length m)) m (waiting_of t) _ (sym c.if-not-is_sized.ensures) f (put_waiting t m _ _ _ f c.new-head.ensures (omega arith) cc)).1
 
 pub returns-clause-memory : goal.returns-clause-memory
 returns-clause-memory c =
-    put_memory c.args.self.now c.args.message.now _ _ _ (sym c.if-not-fits.ensures) (omega arith, omega arith) c.new-head.ensures (omega arith) cc
+    put_memory c.args.self.now c.args.message.now _ _ _ (sym c.if-not-fits.ensures) c.new-head.ensures (omega arith) cc
