@@ -11,16 +11,7 @@ use Rattle.layouts.specs.Mounts.{all_zero, paged, mount_check}
 use Rattle.images.specs.declared.diagnosis.Cause.{Cause}
 use Rattle.images.specs.Causes.{past_zeros, foreign_head, cause_of, wrong_byte}
 use Rattle.images.specs.Diagnoses.{page_at, after_empty, cause_at, Diagnosed, explained, diagnosed, diagnosis}
-use Rattle.images.proofs.Zeros.{all_zero_is}
 use Rattle.images.proofs.Walks.{refused, not_paged}
-
-pub after_empty_is : (bs : List ℕ) (p r : ℕ) → 512 ≤ p → p ≤ length bs → r ≡ past_zeros 0 (take (p - (p - 512)) (drop (p - 512) bs)) → eqb r 512 ≡ after_empty p bs
-after_empty_is bs p r h l e =
-    let j : p - (p - 512) ≡ 512 = omega arith in
-    let page = page_at (p - 512) bs in
-    let long : length page ≡ 512 = length-take-le 512 (drop (p - 512) bs) (simp length-drop (omega arith)) in
-    let z : r ≡ past_zeros 0 page = e ∙ ap (λ n. past_zeros 0 (take n (drop (p - 512) bs))) j in
-    ap (λ x. eqb x 512) (z ∙ zero-add _) ∙ ap (eqb _) (sym long) ∙ all_zero_is page ∙ sym (ap (λ t. t && all_zero page) (le-leb 512 p h))
 
 pub explained_is : (bs page : List ℕ) (f : Told) (h w : ℕ) (a fo : Bool) (c : Cause) → page ≡ page_at f.place bs → h ≡ word_at page 0 → a ≡ after_empty f.place bs → c ≡ cause_of a h → w ≡ wrong_byte c page → fo ≡ foreign_head page → ◌≡◌ {A = Diagnosed} (record { fault = f; byte = f.place + w; cause = c; foreign = fo }) (explained bs f)
 explained_is bs page f h w a fo c ep eh ea ec ew ef =

@@ -6,6 +6,7 @@
 --     cause_of after w       why a page with the head w is refused, where after is whether the page before it is empty
 --     wrong_byte cause page  which byte of the page is wrong
 use Rattle.std.specs.Prelude.{ℕ, suc, ◌+◌, ◌*◌, ◌%◌, ◌^◌, Bool, cond, ◌&&◌, List, [], ◌∷◌, take, drop, ◌==◌, slice_index}
+use Rattle.std.specs.List.{prefix_len}
 use Rattle.words.specs.Words.{kind, formed}
 use Rattle.mailboxes.specs.Mailboxes.{sized}
 use Rattle.layouts.specs.Pages.{page_length}
@@ -13,8 +14,7 @@ use Rattle.images.specs.declared.diagnosis.Cause.{Cause}
 use Rattle.images.specs.declared.diagnosis.Cause.TheVariants.{Kind, ZeroBits, Length, AfterEmpty, AfterWords, EmptyPage}
 
 abbrev pub zeros : List ℕ → ℕ
-zeros [] = 0
-zeros (b ∷ bs) = cond (b == 0) (suc (zeros bs)) 0
+zeros = prefix_len (λ b. b == 0)
 
 abbrev pub past_zeros : ℕ → List ℕ → ℕ
 past_zeros n bs = n + zeros (drop n bs)

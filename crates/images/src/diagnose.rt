@@ -10,43 +10,33 @@ ghost use Rattle.images.specs.Diagnoses.{after_empty, explained, diagnosis, told
 ghost use Rattle.images.specs.Laws.{Accepted, Within, Says, Foreign, TurnedFound};
 
 use crate::diagnosis::{Cause, Diagnosis};
+use mailboxes::mailbox::is_sized;
 use page_mailbox::PageMailbox;
+use page_mailbox::bytes::{PAGE, head_of};
 use words::fault::Fault;
 use words::refusal::Refusal;
 use words::word::{Word, WordKind};
-
-const PAGE: usize = 512;
 
 // The place after the zero bytes that begin at a place.
 fn past_zeros(bytes: &[u8], from: usize) -> usize
     ensures { result ≡ past_zeros from bytes.now }
 {
-    let mut place = from;
-    while place < bytes.len() && bytes[place] == 0 {
-        place += 1;
-    }
-    place
-}
-
-// The head of a page.
-fn head_of(page: &[u8]) -> Word
-    requires { length page.now ≡ 512 }
-    ensures { result.0 ≡ word_at page.now 0 }
-{
-    Word(u32::from_le_bytes([page[0], page[1], page[2], page[3]]))
+    from + bytes
+        .iter()
+        .skip(from)
+        .take_while(|byte| **byte == 0)
+        .count()
 }
 
 // Whether it is the page head of a message.
 fn is_right_head(head: Word) -> bool
     ensures { result ≡ right_head head.0 }
 {
-    let n = head.0 % 256;
-    head.is(WordKind::PageHead) && head.is_well_formed() && 1 <= n && n <= 127
+    head.is(WordKind::PageHead) && head.is_well_formed() && is_sized((head.0 % 256) as usize)
 }
 
 // Whether the head of a page is right when its bytes are read in the other order.
-fn has_foreign_head(page: &[u8]) -> bool
-    requires { length page.now ≡ 512 }
+fn has_foreign_head(page: &[u8; PAGE]) -> bool
     ensures { result ≡ foreign_head page.now }
 {
     is_right_head(Word(u32::from_be_bytes([page[0], page[1], page[2], page[3]])))
@@ -56,14 +46,13 @@ fn has_foreign_head(page: &[u8]) -> bool
 fn cause_of(head: Word, after_empty: bool) -> Cause
     ensures { result ≡ cause_of after_empty head.0 }
 {
-    let n = head.0 % 256;
     if head.0 == 0 {
         Cause::EmptyPage
     } else if !head.is(WordKind::PageHead) {
         Cause::Kind
     } else if !head.is_well_formed() {
         Cause::ZeroBits
-    } else if n == 0 || n > 127 {
+    } else if !is_sized((head.0 % 256) as usize) {
         Cause::Length
     } else if after_empty {
         Cause::AfterEmpty
@@ -73,8 +62,7 @@ fn cause_of(head: Word, after_empty: bool) -> Cause
 }
 
 // Which byte of a page is wrong.
-fn wrong_byte(cause: Cause, page: &[u8]) -> usize
-    requires { length page.now ≡ 512 }
+fn wrong_byte(cause: Cause, page: &[u8; PAGE]) -> usize
     ensures { result ≡ wrong_byte cause page.now }
 {
     match cause {
@@ -92,7 +80,7 @@ fn is_after_empty(bytes: &[u8], place: usize) -> bool
     requires { place ≤ length bytes.now }
     ensures { result ≡ after_empty place bytes.now }
 {
-    place >= PAGE && past_zeros(&bytes[place - PAGE..place], 0) == PAGE
+    place >= PAGE && bytes[place - PAGE..place].iter().all(|byte| *byte == 0)
 }
 
 // What is wrong with the page at the place of a fault.
@@ -102,7 +90,7 @@ fn explain(bytes: &[u8], fault: Fault) -> Diagnosis
     ensures { told_diagnosis result ≡ explained bytes.now (told_fault fault) }
 {
     let place = fault.place;
-    let page = &bytes[place..place + PAGE];
+    let page = bytes[place..].first_chunk().unwrap();
     let cause = cause_of(head_of(page), is_after_empty(bytes, place));
     Diagnosis {
         fault,
@@ -123,9 +111,7 @@ pub fn diagnose(bytes: &[u8]) -> Option<Diagnosis>
 {
     match PageMailbox::check(bytes) {
         Ok(_) => None,
-        Err(fault) => match fault.refusal {
-            Refusal::Memory => None,
-            _ => Some(explain(bytes, fault)),
-        },
+        Err(fault) if fault.refusal == Refusal::Memory => None,
+        Err(fault) => Some(explain(bytes, fault)),
     }
 }

@@ -10,7 +10,7 @@ pub fn turn_round(bytes: &mut [u8])
     ensures words { (ws : List ℕ) → bytes.old ≡ bytes_of ws → bytes.new ≡ foreign_of ws }
     ensures twice { turned bytes.new ≡ bytes.old }
 {
-    for i in 0..bytes.len() / 4 {
-        bytes[4 * i..4 * i + 4].reverse();
+    for word in bytes.chunks_exact_mut(4) {
+        word.reverse();
     }
 }

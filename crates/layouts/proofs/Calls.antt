@@ -22,9 +22,6 @@ module _ (ms : List (List ℕ)) (k : ℕ) where
 pub put_there : (fits : Bool) (m : List ℕ) (ms left : List (List ℕ)) → sized (length m) ≡ true → fits ≡ true → left ≡ ms ++ (m ∷ []) → (Ok tt ≡ put_answer fits (length m)) × (left ≡ put_leaves fits ms m)
 put_there fits m ms left s f e = rw (s, f) (refl, e)
 
-pub put_full : (fits : Bool) (m : List ℕ) (ms : List (List ℕ)) → sized (length m) ≡ true → fits ≡ false → (Err 8 ≡ put_answer fits (length m)) × (ms ≡ put_leaves fits ms m)
-put_full fits m ms s f = rw (s, f) (refl, refl)
-
 -- a message copied to the front of the given words
 pub copied : (got m old : List ℕ) (j : ℕ) → got ≡ m → j ≡ length m → got ++ drop j old ≡ put old 0 m
 copied got m old j e f = ap (λ x. x ++ drop j old) e ∙ ap (λ n. m ++ drop n old) (f ∙ sym (zero-add (length m)))

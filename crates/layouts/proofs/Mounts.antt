@@ -1,14 +1,15 @@
 -- Sound pages: a put and a discard leave them sound, and they are what the check of bytes accepts. Assumes nothing.
-use Rattle.std.proofs.Common.{◌≡◌, ℕ, zero, suc, ◌+◌, ◌-◌, ◌*◌, ◌/◌, ◌%◌, ◌^◌, ◌<◌, ◌≤◌, Bool, true, false, cond, not, ◌&&◌, ◌||◌, eqb, leb, List, [], ◌∷◌, ◌++◌, length, get_or, take, drop, replicate, Ok, Err, Result, sym, refl, ap, ◌∙◌, ⊎_elim, append_assoc, add-zero, zero-add, arith, lit<, lit≤}
+use Rattle.std.proofs.Common.{◌≡◌, ℕ, zero, suc, ◌+◌, ◌-◌, ◌*◌, ◌/◌, ◌%◌, ◌^◌, ◌<◌, ◌≤◌, Bool, true, false, cond, not, ◌&&◌, ◌||◌, eqb, ltb, leb, List, [], ◌∷◌, ◌++◌, length, get_or, take, drop, replicate, Ok, Err, Result, sym, refl, ap, ◌∙◌, ⊎_elim, append_assoc, add-zero, zero-add, arith, lit<, lit≤}
 use Rattle.std.proofs.lemmas.List.{length-append, length-take-le, length-take, length-drop, take-append-le, drop-append-le, drop-drop, take_at, drop_at, take-take, drop-take, length-replicate, drop-replicate, get_or-take}
 use Rattle.std.proofs.lemmas.Slice.{between_to_end}
-use Rattle.std.proofs.lemmas.Bool.{and_parts, and_from, eq-eqb, ne_eqb, eqb-true, leb-true, le-leb, false≢true, cases_eq}
+use Rattle.std.proofs.lemmas.Bool.{and_parts, and_from, eq-eqb, ne_eqb, eqb-true, leb-true, le-leb, lt-ltb, false≢true, cases_eq}
+use Rattle.std.proofs.lemmas.Bool.Decides.{nat_tests}
 use Rattle.words.specs.Words.{kind, formed, zero_run}
 use Rattle.words.specs.Writes.{put}
 use Rattle.words.specs.Refusals.{value_or}
 use Rattle.words.specs.Readings.{Told}
 use Rattle.mailboxes.specs.Mailboxes.{sized}
-use Rattle.layouts.specs.Rows.{head, sized_from}
+use Rattle.layouts.specs.Rows.{head, sized_from, sized_true}
 use Rattle.layouts.specs.Pages.{le_bytes, be_bytes, bytes_of, word_at, page_of, page_closed}
 use Rattle.layouts.specs.Mounts.{all_zero, well, full, wrong, page_check, mount_next, mount_pages, paged, mount_check, mounted_pages, pages_sound, whole, ForeignRefused}
 use Rattle.layouts.proofs.PageBytes.{length_bytes_of, page_head, page_size}
@@ -228,32 +229,41 @@ module _ (at : ℕ) (seen : Bool) (page : List ℕ) where
       by false a false w e = let n : ◌≡◌ {A = ℕ} 0 1 = cc in absurd (omega arith)
 
 -- the last test of a page that has passed the others
-pub check_last : (at : ℕ) (seen z : Bool) (page : List ℕ) (h : ℕ) → h ≡ word_at page 0 → length page ≡ 512 → (h ≡ 0 → ⊥) → eqb (kind h) 15 ≡ true → seen ≡ false → formed h ≡ true → (h % 256 ≡ 0 → ⊥) → h % 256 ≤ 127 → z ≡ all_zero (take (512 - (4 + 4 * (h % 256))) (drop (4 + 4 * (h % 256)) page)) → page_check at seen page ≡ cond z (Ok true) (Err (wrong 11 at))
-check_last at seen z page h eh l nz k s f ne few e =
+pub check_last : (at : ℕ) (seen z : Bool) (page : List ℕ) (h : ℕ) → h ≡ word_at page 0 → length page ≡ 512 → (h ≡ 0 → ⊥) → eqb (kind h) 15 ≡ true → seen ≡ false → formed h ≡ true → sized (h % 256) ≡ true → z ≡ all_zero (take (512 - (4 + 4 * (h % 256))) (drop (4 + 4 * (h % 256)) page)) → page_check at seen page ≡ cond z (Ok true) (Err (wrong 11 at))
+check_last at seen z page h eh l nz k s f sz e =
+    let few = sized_true (h % 256) sz in
     let t : take (512 - (4 + 4 * (h % 256))) (drop (4 + 4 * (h % 256)) page) ≡ drop (4 + 4 * (h % 256)) page = between_to_end page (4 + 4 * (h % 256)) 512 (omega arith) in
-    let sz : sized (h % 256) ≡ true = sized_from (h % 256) (positive (h % 256) ne) few in
     let w : (formed h && (sized (h % 256) && all_zero (drop (4 + 4 * (h % 256)) page))) ≡ z = rw (f, sz) (sym (e ∙ ap all_zero t)) in
     let test : ℕ → Bool = λ x. not seen && (formed x && (sized (x % 256) && all_zero (drop (4 + 4 * (x % 256)) page))) in
     let c : test h ≡ z = ap (λ b. not b && (formed h && (sized (h % 256) && all_zero (drop (4 + 4 * (h % 256)) page)))) s ∙ w in
     ap (λ x. cond (eqb x 0) (cond (all_zero page) (Ok false) (Err (wrong 11 at))) (cond (eqb (kind x) 15) (cond (test x) (Ok true) (Err (wrong 11 at))) (Err (wrong 10 at)))) (sym eh)
     ∙ rw (ne_eqb h 0 nz, k, c) refl
-  where
-    positive : (n : ℕ) → (n ≡ 0 → ⊥) → 1 ≤ n
-    positive zero ne = absurd (ne refl)
-    positive (suc n) ne = omega arith
 
--- page i, and the rest of the pages
-module _ (n i held : ℕ) (seen : Bool) (bs : List ℕ) (turn : i < n) (j : ℕ) (ej : j ≡ 512) (v : Result Bool Told) (is : v ≡ page_check (512 * i) seen (take j (drop (512 * i) bs))) where
-  pub mount_turn : mount_pages (n - i) (512 * i) held seen (drop (512 * i) bs) ≡ mount_next v (mount_pages (n - (i + 1)) (512 * (i + 1)) (held + 1) seen (drop (512 * (i + 1)) bs)) (mount_pages (n - (i + 1)) (512 * (i + 1)) held true (drop (512 * (i + 1)) bs))
-  mount_turn =
+-- page i, and the rest of the pages: where fewer than i pages hold messages, an empty one came before
+module _ (n i held : ℕ) (bs page : List ℕ) (turn : i < n) (few : held ≤ i) (at : page ≡ take 512 (drop (512 * i) bs)) where
+  mount_turn : (v : Result Bool Told) → v ≡ page_check (512 * i) (ltb held i) page → mount_pages (n - i) (512 * i) held (ltb held i) (drop (512 * i) bs) ≡ mount_next v (mount_pages (n - (i + 1)) (512 * (i + 1)) (held + 1) (ltb held i) (drop (512 * (i + 1)) bs)) (mount_pages (n - (i + 1)) (512 * (i + 1)) held true (drop (512 * (i + 1)) bs))
+  mount_turn v is =
       let more : n - i ≡ suc (n - (i + 1)) = omega arith in
       let there : 512 * i + 512 ≡ 512 * (i + 1) = omega arith in
       let next : drop 512 (drop (512 * i) bs) ≡ drop (512 * (i + 1)) bs = drop-drop 512 (512 * i) bs ∙ ap (λ x. drop x bs) there in
-      let e : page_check (512 * i) seen (take 512 (drop (512 * i) bs)) ≡ v = ap (λ x. page_check (512 * i) seen (take x (drop (512 * i) bs))) (sym ej) ∙ sym is in
-      ap (λ x. mount_pages x (512 * i) held seen (drop (512 * i) bs)) more
-      ∙ ap (λ x. mount_next x (mount_pages (n - (i + 1)) (512 * i + 512) (held + 1) seen (drop 512 (drop (512 * i) bs))) (mount_pages (n - (i + 1)) (512 * i + 512) held true (drop 512 (drop (512 * i) bs)))) e
-      ∙ ap (λ x. mount_next v (mount_pages (n - (i + 1)) x (held + 1) seen (drop 512 (drop (512 * i) bs))) (mount_pages (n - (i + 1)) x held true (drop 512 (drop (512 * i) bs)))) there
-      ∙ ap (λ x. mount_next v (mount_pages (n - (i + 1)) (512 * (i + 1)) (held + 1) seen x) (mount_pages (n - (i + 1)) (512 * (i + 1)) held true x)) next
+      let e : page_check (512 * i) (ltb held i) (take 512 (drop (512 * i) bs)) ≡ v = ap (page_check (512 * i) (ltb held i)) (sym at) ∙ sym is in
+      ap (λ x. mount_pages x (512 * i) held (ltb held i) (drop (512 * i) bs)) more
+      ∙ ap (λ x. mount_next x (mount_pages (n - (i + 1)) (512 * i + 512) (held + 1) (ltb held i) (drop 512 (drop (512 * i) bs))) (mount_pages (n - (i + 1)) (512 * i + 512) held true (drop 512 (drop (512 * i) bs)))) e
+      ∙ ap (λ x. mount_next v (mount_pages (n - (i + 1)) x (held + 1) (ltb held i) (drop 512 (drop (512 * i) bs))) (mount_pages (n - (i + 1)) x held true (drop 512 (drop (512 * i) bs)))) there
+      ∙ ap (λ x. mount_next v (mount_pages (n - (i + 1)) (512 * (i + 1)) (held + 1) (ltb held i) x) (mount_pages (n - (i + 1)) (512 * (i + 1)) held true x)) next
+
+  pub mount_wrong : (f : Told) → Err f ≡ page_check (512 * i) (ltb held i) page → mount_pages (n - i) (512 * i) held (ltb held i) (drop (512 * i) bs) ≡ Err f
+  mount_wrong f is = mount_turn (Err f) is
+
+  pub mount_message : Ok true ≡ page_check (512 * i) (ltb held i) page → mount_pages (n - i) (512 * i) held (ltb held i) (drop (512 * i) bs) ≡ mount_pages (n - (i + 1)) (512 * (i + 1)) (held + 1) (ltb (held + 1) (i + 1)) (drop (512 * (i + 1)) bs)
+  mount_message is =
+      let same : ltb held i ≡ ltb (held + 1) (i + 1) = grind (arith, nat_tests) in
+      mount_turn (Ok true) is ∙ ap (λ x. mount_pages (n - (i + 1)) (512 * (i + 1)) (held + 1) x (drop (512 * (i + 1)) bs)) same
+
+  pub mount_empty : Ok false ≡ page_check (512 * i) (ltb held i) page → mount_pages (n - i) (512 * i) held (ltb held i) (drop (512 * i) bs) ≡ mount_pages (n - (i + 1)) (512 * (i + 1)) held (ltb held (i + 1)) (drop (512 * (i + 1)) bs)
+  mount_empty is =
+      let seen : ltb held (i + 1) ≡ true = lt-ltb held (i + 1) (omega arith) in
+      mount_turn (Ok false) is ∙ ap (λ x. mount_pages (n - (i + 1)) (512 * (i + 1)) held x (drop (512 * (i + 1)) bs)) (sym seen)
 
 pub mount_sized : (bs : List ℕ) → paged (length bs) ≡ true → mount_check bs ≡ mount_pages (length bs / 512) 0 0 false bs
 mount_sized bs g = ap (λ x. cond x (mount_pages (length bs / 512) 0 0 false bs) (Err (wrong 16 0))) g

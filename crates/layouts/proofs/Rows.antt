@@ -3,6 +3,8 @@ use Rattle.std.proofs.Common.{◌≡◌, ℕ, zero, suc, ◌+◌, ◌-◌, ◌%�
 use lib.Seq.{take-append_seam, drop-append_seam, paste}
 use Rattle.std.specs.List.{remove, AllByRecursion}
 use Rattle.std.proofs.lemmas.List.{append-nil, length-append, length-take-le, length-drop, take-append-drop, get_or_at, get_or-take, get_or-drop, take-take, take_more, drop_at, take_at, length-set, take_more_set, take_all, drop-take, take-set-le}
+use borrow.Rule.Slice.PartMut.{put_mid}
+use Rattle.std.proofs.lemmas.Slice.{put_mid-paste}
 use Rattle.std.proofs.lemmas.List.Edits.{take-paste, drop-paste, paste_more, length-remove}
 use Rattle.std.proofs.lemmas.Bool.{and_parts, and_from, leb-true, le-leb, cond-true, le-ltb, lt-ltb, eq-eqb}
 use Rattle.mailboxes.specs.Mailboxes.{Message, sized, counted}
@@ -66,26 +68,19 @@ all_drop P zero xs a = a
 all_drop P (suc k) [] a = tt
 all_drop P (suc k) (x ∷ xs) a = all_drop P k xs a.1
 
--- a word past what was pasted is as it was
-pub getD_past_paste : (d : List ℕ) (at : ℕ) (s : List ℕ) (n i z : ℕ) → at + n ≤ i → at + n ≤ length d → n ≤ length s → get_or (paste d at s n) i z ≡ get_or d i z
-getD_past_paste d at s n i z h l r =
-    let e : at + n + (i - (at + n)) ≡ i = omega arith in
-    ap (λ x. get_or (paste d at s n) x z) (sym e) ∙ sym (get_or-drop (at + n) (paste d at s n) (i - (at + n)) z)
-    ∙ ap (λ x. get_or x (i - (at + n)) z) (drop-paste d at s n (omega arith) r)
-    ∙ get_or-drop (at + n) d (i - (at + n)) z ∙ ap (λ x. get_or d x z) e
-
 pub row_room : (all : ℕ) (ms : List (List ℕ)) (n : ℕ) → row_takes all ms n ≡ true → (all ≤ 4096) × (length (laid ms) + n + 1 ≤ all)
 row_room all ms n e =
     let p = and_parts (sized n) (leb all 4096 && leb (length (laid ms) + n + 1) all) e in
     let q = and_parts (leb all 4096) (leb (length (laid ms) + n + 1) all) p.1 in
     (leb-true all 4096 q.0, leb-true (length (laid ms) + n + 1) all q.1)
 
-pub paste_to : (ws d : List ℕ) (at : ℕ) (s : List ℕ) (i n : ℕ) → ws ≡ paste d at s i → i ≡ n → ws ≡ paste d at s n
-paste_to ws d at s i n e f = e ∙ ap (paste d at s) f
-
 -- what is pasted whole is put
 pub paste_put : (d : List ℕ) (at : ℕ) (s part : List ℕ) (n : ℕ) → take n s ≡ part → n ≡ length part → paste d at s n ≡ put d at part
 paste_put d at s part n e f = ap (λ x. (take at d ++ x) ++ drop (at + n) d) e ∙ append_assoc (take at d) part (drop (at + n) d) ∙ ap (λ x. take at d ++ (part ++ drop (at + x) d)) f
+
+-- so is what a part of the words was made
+pub mid_put : (d part ys : List ℕ) (at k : ℕ) → ys ≡ part → k ≡ length part → put_mid at k d ys ≡ put d at part
+mid_put d part ys at k e f = put_mid-paste at k d ys part (length part) e (sym f) refl ∙ paste_put d at part part (length part) (take_all (length part) part (omega arith)) refl
 
 -- a head and its message, written one after the other
 pub put_memory : (fits : Bool) (ms : List (List ℕ)) (ws m new : List ℕ) (used : ℕ) → fits ≡ true → used ≡ length (laid ms) → used + length m + 1 ≤ length ws → new ≡ paste (set ws used (head (length m))) (used + 1) m (length m) → new ≡ row_put fits ms m ws
@@ -98,24 +93,6 @@ put_memory fits ms ws m new used fo eu room e =
 
 pub discard_none : (k : ℕ) (ms : List (List ℕ)) (ws : List ℕ) → counted ms ≤ k → ws ≡ row_discard ms k ws
 discard_none k ms ws h = rw (le-ltb k (counted ms) h) refl
-
--- one word more moved down, from `from` to `to`
-pub move_more : (ws now : List ℕ) (to from i : ℕ) → to ≤ from → from ≤ i → i < length ws → now ≡ paste ws to (drop from ws) (i - from) → set now (to + (i - from)) (get_or now i 0) ≡ paste ws to (drop from ws) (i + 1 - from)
-move_more ws now to from i h l r e =
-    let n : i - from < length (drop from ws) = simp length-drop (omega arith) in
-    let g : get_or now i 0 ≡ get_or (drop from ws) (i - from) 0 =
-    ap (λ x. get_or x i 0) e ∙ getD_past_paste ws to (drop from ws) (i - from) i 0 (omega arith) (omega arith) (omega arith)
-    ∙ ap (λ x. get_or ws x 0) (sub_back from i l) ∙ sym (get_or-drop from ws (i - from) 0) in
-    let j : i - from + 1 ≡ i + 1 - from = omega arith in
-    ap (λ x. set now (to + (i - from)) x) g ∙ ap (λ x. set x (to + (i - from)) (get_or (drop from ws) (i - from) 0)) e
-    ∙ paste_more ws to (drop from ws) (i - from) 0 (omega arith) n ∙ ap (paste ws to (drop from ws)) j
-  where
-    sub_back : (from i : ℕ) → from ≤ i → i ≡ from + (i - from)
-    sub_back from i h = omega arith
-
--- a write at or past the used words leaves them sound
-pub sound_set : (held used i v : ℕ) (ws : List ℕ) → used ≤ i → sound held (take used ws) ≡ true → sound held (take used (set ws i v)) ≡ true
-sound_set held used i v ws h ok = ap (sound held) (take-set-le used ws i v h) ∙ ok
 
 -- a store whose used words are sound
 module _ (ws : List ℕ) (used held : ℕ) (fit : used ≤ length ws) (ok : sound held (take used ws) ≡ true) where
@@ -213,9 +190,6 @@ module _ (ws : List ℕ) (used held : ℕ) (fit : used ≤ length ws) (ok : soun
 
     pub front_all : AllByRecursion Message (take k (parsed held (take used ws)))
     front_all = all_take Message k (parsed held (take used ws)) (sound_parsed held (take used ws) ok).2
-
-    pub front_count : k ≡ length (take k (parsed held (take used ws)))
-    front_count = sym (length-take-le k (parsed held (take used ws)) (omega (arith, held_is)))
 
     -- the words after message k
     back_laid : drop (p + 1 + n) (take used ws) ≡ laid (drop (suc k) (parsed held (take used ws)))

@@ -14,6 +14,7 @@
 --     pages_sound n held bs  n pages: held of messages, and then zero bytes
 --     whole pages n          pages are none, or those that n bytes are
 use Rattle.std.specs.Prelude.{◌≡◌, ℕ, zero, suc, ◌+◌, ◌*◌, ◌/◌, ◌%◌, ◌≤◌, Bool, true, false, cond, not, ◌&&◌, ◌||◌, List, [], ◌∷◌, length, take, drop, replicate, Ok, Err, Result, ◌==◌, nat_le}
+use Rattle.std.specs.List.{list_all}
 use Rattle.words.specs.declared.fault.Layer.TheVariants.{Mailbox}
 use Rattle.words.specs.Words.{kind, formed}
 use Rattle.words.specs.Readings.{Told}
@@ -23,8 +24,7 @@ use Rattle.layouts.specs.Rows.{head}
 use Rattle.layouts.specs.Pages.{be_bytes, word_at, page_length}
 
 abbrev pub all_zero : List ℕ → Bool
-all_zero [] = true
-all_zero (b ∷ bs) = b == 0 && all_zero bs
+all_zero = list_all (λ b. b == 0)
 
 abbrev pub well : List ℕ → Bool
 well page = formed (word_at page 0) && (sized (page_length page) && all_zero (drop (4 + 4 * page_length page) page))

@@ -1,9 +1,17 @@
 // A mailbox: messages of 1 to 127 words that wait in a row.
 ghost use Rattle.std.specs.Prelude.{◌≡◌, ℕ, Bool, List, length};
 ghost use Rattle.words.specs.Refusals.{numbered};
-ghost use Rattle.mailboxes.specs.Mailboxes.{Lawful, counted, put_answer, put_leaves, read_answer, read_leaves, discard_answer, discard_leaves, Kept};
+ghost use Rattle.mailboxes.specs.Mailboxes.{Lawful, sized, counted, put_answer, put_leaves, read_answer, read_leaves, discard_answer, discard_leaves, Kept};
 
 use words::refusal::Refusal;
+use words::word::LONGEST;
+
+// Whether a message may have so many words.
+pub fn is_sized(n: usize) -> bool
+    ensures { result ≡ sized n }
+{
+    1 <= n && n <= LONGEST
+}
 
 pub trait Mailbox {
     // The messages, in the order in which they wait.
@@ -11,9 +19,6 @@ pub trait Mailbox {
 
     // Whether a message of so many words is taken now. It is the mailbox's own choice, and free after a put or a discard that is done.
     ghost takes: { Self → ℕ → Bool };
-
-    // Every message has 1 to 127 words, and none of another length is taken.
-    ghost lawful: { Lawful waiting takes };
 
     // How many wait, or 65,535 where there are more.
     fn count(&self) -> u16
@@ -39,4 +44,7 @@ pub trait Mailbox {
         ensures answer { numbered result ≡ discard_answer (waiting self.old) k }
         ensures after { waiting self.new ≡ discard_leaves (waiting self.old) k }
         ensures refused { Kept result self.old self.new };
+
+    // Every message has 1 to 127 words, and none of another length is taken.
+    ghost lawful: { Lawful waiting takes };
 }

@@ -8,6 +8,7 @@ ghost use Rattle.mailboxes.specs.Parts.{waiting_of, takes_of, goes_first, goes_s
 
 use crate::mailbox::Mailbox;
 use words::refusal::Refusal;
+use words::word::LONGEST;
 
 #[derive(Drop)]
 pub struct Overflow<A, B> {
@@ -41,11 +42,6 @@ impl<A: Mailbox, B: Mailbox> Mailbox for Overflow<A, B> {
 
     ghost takes = { λ o n. takes_of A.Mailbox B.Mailbox o n };
 
-    ghost lawful = { record {
-      messages = λ o. all_append Message (A.Mailbox.waiting o.first) (B.Mailbox.waiting o.second) (A.Mailbox.lawful.messages o.first) (B.Mailbox.lawful.messages o.second);
-      sizes = λ o n. spills_sizes (A.Mailbox.takes o.first n) (B.Mailbox.takes o.second n) (B.Mailbox.waiting o.second) n (A.Mailbox.lawful.sizes o.first n) (B.Mailbox.lawful.sizes o.second n);
-    } };
-
     fn count(&self) -> u16 {
         self.first.count().saturating_add(self.second.count())
     }
@@ -76,7 +72,7 @@ impl<A: Mailbox, B: Mailbox> Mailbox for Overflow<A, B> {
             self.first.read(k, words)
         } else if k < 65_535 {
             self.second.read(k - here, words)
-        } else if words.len() < 127 {
+        } else if words.len() < LONGEST {
             Err(Refusal::Room)
         } else {
             Err(Refusal::Absent)
@@ -99,4 +95,9 @@ impl<A: Mailbox, B: Mailbox> Mailbox for Overflow<A, B> {
             Err(Refusal::Absent)
         }
     }
+
+    ghost lawful = { record {
+      messages = λ o. all_append Message (A.Mailbox.waiting o.first) (B.Mailbox.waiting o.second) (A.Mailbox.lawful.messages o.first) (B.Mailbox.lawful.messages o.second);
+      sizes = λ o n. spills_sizes (A.Mailbox.takes o.first n) (B.Mailbox.takes o.second n) (B.Mailbox.waiting o.second) n (A.Mailbox.lawful.sizes o.first n) (B.Mailbox.lawful.sizes o.second n);
+    } };
 }

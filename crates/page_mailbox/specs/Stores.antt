@@ -19,6 +19,6 @@ takes_of t n = page_takes t.pages (waiting_of t) n
 
 pub kept : Lawful waiting_of takes_of
 kept = record {
-  messages = λ t. sound_messages t.pages t.held (memory_of t) t.ok.0;
+  messages = λ t. sound_messages t.pages t.held (memory_of t) t.messages;
   sizes = λ t n. page_sizes t.pages (waiting_of t) n;
 }

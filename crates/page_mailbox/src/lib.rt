@@ -1,11 +1,11 @@
 // A mailbox over lent bytes in pages of 512: message k is page k. The bytes are what travels between stations, so every word is written
-// and read by arithmetic, its lowest byte first, whatever the machine's own order is.
+// and read with its lowest byte first, whatever the machine's own order is.
 #![tactic(auto)]
 
 ghost use Rattle.std.specs.Prelude.{◌≡◌, true, length};
 ghost use Rattle.layouts.specs.Mounts.{pages_sound, whole};
 
-mod bytes;
+pub mod bytes;
 pub mod calls;
 pub mod open;
 
@@ -15,5 +15,6 @@ pub struct PageMailbox<'a> {
     bytes: &'a mut [u8],
     pages: usize,
     held: usize,
-    ghost ok: { (pages_sound pages held bytes.now ≡ true) × (whole pages (length bytes.now) ≡ true) },
+    ghost messages: { pages_sound pages held bytes.now ≡ true },
+    ghost extent: { whole pages (length bytes.now) ≡ true },
 }

@@ -8,10 +8,11 @@ ghost use Rattle.layouts.specs.Images.{Written, ImagesAccepted};
 ghost use Rattle.page_mailbox.specs.Stores.{memory_of, waiting_of};
 
 use crate::PageMailbox;
-use crate::bytes::{PAGE, is_zero, word_at};
+use crate::bytes::{PAGE, head_of, is_zero};
+use mailboxes::mailbox::is_sized;
 use words::fault::{Fault, Layer};
 use words::refusal::Refusal;
-use words::word::{Word, WordKind};
+use words::word::WordKind;
 
 fn fault(refusal: Refusal, place: usize) -> Fault
     ensures { told_fault result ≡ wrong (number_of refusal) place }
@@ -31,11 +32,10 @@ fn is_paged(size: usize) -> bool
 }
 
 // Whether a page is one of a message, or else an empty one. `seen` is whether an empty page came before it.
-fn check_page(page: &[u8], place: usize, seen: bool) -> Result<bool, Fault>
-    requires { length page.now ≡ 512 }
+fn check_page(page: &[u8; PAGE], place: usize, seen: bool) -> Result<bool, Fault>
     ensures { told result ≡ page_check place seen page.now }
 {
-    let head = Word(word_at(page, 0));
+    let head = head_of(page);
     if head.0 == 0 {
         return if is_zero(page) {
             Ok(false)
@@ -47,24 +47,13 @@ fn check_page(page: &[u8], place: usize, seen: bool) -> Result<bool, Fault>
         return Err(fault(Refusal::Kind, place));
     }
     let n = (head.0 % 256) as usize;
-    if seen || !head.is_well_formed() || n == 0 || n > 127 {
+    if seen || !head.is_well_formed() || !is_sized(n) {
         return Err(fault(Refusal::Form, place));
     }
     if is_zero(&page[4 + 4 * n..PAGE]) {
         Ok(true)
     } else {
         Err(fault(Refusal::Form, place))
-    }
-}
-
-// How many pages are in use and how many are held, by what the check of so many bytes answered.
-fn extent(found: Result<usize, Fault>, size: usize) -> (usize, usize)
-    ensures pages { result.0 ≡ mounted_pages (told found) size }
-    ensures held { result.1 ≡ value_or 0 (told found) }
-{
-    match found {
-        Ok(held) => (size / PAGE, held),
-        Err(_) => (0, 0),
     }
 }
 
@@ -80,14 +69,12 @@ impl<'a> PageMailbox<'a> {
         if !is_paged(size) {
             return Err(fault(Refusal::Memory, 0));
         }
+        let (pages, _) = bytes.as_chunks();
         let mut held = 0;
-        let mut seen = false;
-        for i in 0..size / PAGE {
-            let full = check_page(&bytes[PAGE * i..PAGE * i + PAGE], PAGE * i, seen)?;
-            if full {
+        for (i, page) in pages.iter().enumerate() {
+            // Where not every page so far is one of a message, an empty one came before.
+            if check_page(page, PAGE * i, held < i)? {
                 held += 1;
-            } else {
-                seen = true;
             }
         }
         Ok(held)
@@ -123,7 +110,10 @@ impl<'a> PageMailbox<'a> {
         ensures memory { memory_of result ≡ bytes.old }
         ensures lender { result.bytes.ghost_name ≡ bytes.entry.ghost_name }
     {
-        let (pages, held) = extent(PageMailbox::check(bytes), bytes.len());
+        let (pages, held) = match PageMailbox::check(bytes) {
+            Ok(held) => (bytes.len() / PAGE, held),
+            Err(_) => (0, 0),
+        };
         PageMailbox { bytes, pages, held }
     }
 

@@ -24,6 +24,6 @@ check_answer n = cond (nat_lt 4096 n) (Err (record { number = 16; place = 0; lay
 
 pub kept : Lawful waiting_of takes_of
 kept = record {
-  messages = λ t. (sound_parsed t.held (take t.used (memory_of t)) t.ok.2).2;
+  messages = λ t. (sound_parsed t.held (take t.used (memory_of t)) t.messages).2;
   sizes = λ t n. row_sizes (length (memory_of t)) (waiting_of t) n;
 }

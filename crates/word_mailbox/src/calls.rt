@@ -6,9 +6,11 @@ ghost use Rattle.layouts.specs.Rows.{laid, row_put, row_discard};
 ghost use Rattle.word_mailbox.specs.Stores.{memory_of, waiting_of, takes_of, kept};
 
 use crate::WordMailbox;
-use mailboxes::mailbox::Mailbox;
+use crate::open::MOST;
+use mailboxes::mailbox::{Mailbox, is_sized};
+use std::ops::Range;
 use words::refusal::Refusal;
-use words::word::{Word, WordKind};
+use words::word::{LONGEST, Word, WordKind};
 
 impl WordMailbox<'_> {
     // Where the page head of message k stands, or where the used words end.
@@ -23,18 +25,16 @@ impl WordMailbox<'_> {
         place
     }
 
-    // Where the page head of message k stands, and how many words the message has.
-    fn find(&self, k: usize) -> (usize, usize)
+    // Where message k lies, its page head first.
+    fn find(&self, k: usize) -> Range<usize>
         requires { k < self.now.held }
-        ensures place { result.0 ≡ length (laid (take k (waiting_of self.now))) }
-        ensures size { result.1 ≡ length (slice_index_or (waiting_of self.now) k []) }
-        ensures within { result.0 + 1 + result.1 ≤ self.now.used }
-        ensures room { self.now.used ≤ length (memory_of self.now) }
-        ensures small { self.now.used ≤ 4096 }
-        ensures short { result.1 ≤ 127 }
+        ensures start { result.start ≡ length (laid (take k (waiting_of self.now))) }
+        ensures end { result.end ≡ length (laid (take (k + 1) (waiting_of self.now))) }
+        ensures size { result.end ≡ result.start + 1 + length (slice_index_or (waiting_of self.now) k []) }
+        ensures within { result.end ≤ self.now.used }
     {
-        let place = self.place(k);
-        (place, (self.words[place] % 256) as usize)
+        let start = self.place(k);
+        start..start + 1 + (self.words[start] % 256) as usize
     }
 }
 
@@ -43,18 +43,13 @@ impl<'a> Mailbox for WordMailbox<'a> {
 
     ghost takes = { takes_of };
 
-    ghost lawful = { kept };
-
     fn count(&self) -> u16 {
         self.held as u16
     }
 
     fn fits(&self, n: usize) -> bool {
-        if n == 0 || n > 127 {
-            return false;
-        }
         let all = self.words.len();
-        all <= 4096 && self.used + n + 1 <= all
+        is_sized(n) && all <= MOST && self.used + n + 1 <= all
     }
 
     fn put(&mut self, message: &[u32]) -> Result<(), Refusal>
@@ -65,33 +60,32 @@ impl<'a> Mailbox for WordMailbox<'a> {
         ensures lender { self.new.words.ghost_name ≡ self.old.words.ghost_name }
     {
         let n = message.len();
-        if n == 0 || n > 127 {
+        if !is_sized(n) {
             return Err(Refusal::Long);
         }
-        if !(*self).fits(n) {
+        if !self.fits(n) {
             return Err(Refusal::Full);
         }
         let used = self.used;
         let head = Word::new(WordKind::PageHead, n as u32);
         self.words[used] = head.0;
-        for i in 0..n {
-            self.words[used + 1 + i] = message[i];
-        }
-        self.used = used + n + 1;
+        self.words[used + 1..used + 1 + n].copy_from_slice(message);
+        self.used += n + 1;
         self.held += 1;
         Ok(())
     }
 
     fn read(&self, k: usize, words: &mut [u32]) -> Result<usize, Refusal> {
-        if words.len() < 127 {
+        if words.len() < LONGEST {
             return Err(Refusal::Room);
         }
         if k >= self.held {
             return Err(Refusal::Absent);
         }
-        let (place, n) = self.find(k);
-        words[0..n].copy_from_slice(&self.words[place + 1..place + 1 + n]);
-        Ok(n)
+        let found = self.find(k);
+        let message = &self.words[found.start + 1..found.end];
+        words[..message.len()].copy_from_slice(message);
+        Ok(message.len())
     }
 
     fn discard(&mut self, k: usize) -> Result<(), Refusal>
@@ -104,18 +98,12 @@ impl<'a> Mailbox for WordMailbox<'a> {
         if k >= self.held {
             return Err(Refusal::Absent);
         }
-        let (place, n) = self.find(k);
-        let used = self.used;
-        let held = self.held;
-        let from = place + 1 + n;
-        // Until the later messages have moved, those before message k are held.
-        self.used = place;
-        self.held = k;
-        for i in from..used {
-            self.words[place + (i - from)] = self.words[i];
-        }
-        self.used = used - (n + 1);
-        self.held = held - 1;
+        let found = self.find(k);
+        self.words.copy_within(found.end..self.used, found.start);
+        self.used -= found.end - found.start;
+        self.held -= 1;
         Ok(())
     }
+
+    ghost lawful = { kept };
 }

@@ -14,5 +14,7 @@ pub struct WordMailbox<'a> {
     words: &'a mut [u32],
     used: usize,
     held: usize,
-    ghost ok: { (used ≤ length words.now) × (used ≤ 4096) × (sound held (take used words.now) ≡ true) },
+    ghost room: { used ≤ length words.now },
+    ghost small: { used ≤ 4096 },
+    ghost messages: { sound held (take used words.now) ≡ true },
 }

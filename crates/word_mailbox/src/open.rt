@@ -8,7 +8,7 @@ use words::fault::{Fault, Layer};
 use words::refusal::Refusal;
 
 // The most words that a mailbox is made of.
-const MOST: usize = 4096;
+pub(crate) const MOST: usize = 4096;
 
 impl<'a> WordMailbox<'a> {
     // Whether a mailbox can be made of so many words.
@@ -16,11 +16,7 @@ impl<'a> WordMailbox<'a> {
         ensures { told result ≡ check_answer (length words.now) }
     {
         if words.len() > MOST {
-            return Err(Fault {
-                refusal: Refusal::Memory,
-                place: 0,
-                layer: Layer::Mailbox,
-            });
+            return Err(Fault::plain(Refusal::Memory, Layer::Mailbox));
         }
         Ok(())
     }

@@ -14,10 +14,10 @@ returns c =
     let m = c.mount.ensures in
     record {
       memory = m.memory;
-      pages = λ ne. let a = accepts t.pages t.held bs ne t.ok.1 t.ok.0 in m.pages ∙ ap (λ r. mounted_pages r (length bs)) a.0 ∙ a.1;
-      waiting = λ ne. let a = accepts t.pages t.held bs ne t.ok.1 t.ok.0 in m.waiting ∙ ap (λ r. pages_of (value_or 0 r) bs) a.0;
+      pages = λ ne. let a = accepts t.pages t.held bs ne t.extent t.messages in m.pages ∙ ap (λ r. mounted_pages r (length bs)) a.0 ∙ a.1;
+      waiting = λ ne. let a = accepts t.pages t.held bs ne t.extent t.messages in m.waiting ∙ ap (λ r. pages_of (value_or 0 r) bs) a.0;
       mounted_pages = m.pages;
       mounted_waiting = m.waiting;
-      accepted = λ ne. (accepts t.pages t.held bs ne t.ok.1 t.ok.0).0 ∙ ap Ok (sym (length_pages t.held bs));
+      accepted = λ ne. (accepts t.pages t.held bs ne t.extent t.messages).0 ∙ ap Ok (sym (length_pages t.held bs));
       lender = m.lender;
     }

@@ -10,4 +10,4 @@ pub invariant_of-result-2 : goal.invariant_of-result-2
 invariant_of-result-2 c =
     let n = length c.args.bytes.now in
     let g = sym c.if-not-is_paged.ensures in
-    record { ok = (ap (pages_sound (n / 512) 0) (c.fill.ensures.after (λ y e. e)) ∙ sound_zeros (n / 512) n, ap (whole (n / 512)) c.fill.ensures.len ∙ whole_from n g) }
+    record { messages = ap (pages_sound (n / 512) 0) (c.fill.ensures.after (λ y e. e)) ∙ sound_zeros (n / 512) n; extent = ap (whole (n / 512)) c.fill.ensures.len ∙ whole_from n g }

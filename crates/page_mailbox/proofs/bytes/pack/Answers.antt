@@ -1,7 +1,6 @@
-use Rattle.std.proofs.Common.{◌≡◌, ◌+◌, ◌-◌, ◌*◌, ◌++◌, length, take, replicate, refl, ap, ◌∙◌, arith}
-use Rattle.std.proofs.lemmas.List.{take_all}
+use Rattle.std.proofs.Common.{◌+◌, ◌-◌, ◌*◌, length, refl, ap, ◌∙◌, arith}
 use Rattle.layouts.specs.Rows.{head}
-use Rattle.layouts.specs.Pages.{le_bytes, bytes_of}
+use Rattle.layouts.specs.Pages.{le_bytes}
 use Rattle.layouts.proofs.PageBytes.{pack_more, length_packed}
 use Rattle.page_mailbox.proofs.bytes.pack.Goals as goal
 
@@ -10,13 +9,6 @@ loop-i-preserved c =
     let m = c.args.message.now in
     let i = c.loop-i.i in
     let h = le_bytes (head (length m)) in
-    let w = c.copy_from_slice-in-loop-i.ensures.after ∙ c.le_bytes-bytes.ensures in
+    let w = c.copy_from_slice-in-loop-i.ensures.after ∙ c.to_le_bytes-in-loop-i.ensures in
     let e = pack_more h m c.loop-i.page c.copy_from_slice-in-loop-i.new.self i (4 + 4 * i) (8 + 4 * i - (4 + 4 * i)) refl c.loop-i-test.true c.requires refl (omega arith) c.loop-i.invariant.0 w in
     (e, ap length e ∙ length_packed h m (i + 1) refl (omega arith) c.requires)
-
-pub returns : goal.returns
-returns c =
-    let m = c.args.message.now in
-    let i = c.loop-i.i in
-    let e : i ≡ length m = omega arith in
-    c.loop-i.invariant.0 ∙ ap (λ x. le_bytes (head (length m)) ++ (bytes_of (take x m) ++ replicate (508 - 4 * x) 0)) e ∙ ap (λ x. le_bytes (head (length m)) ++ (bytes_of x ++ replicate (508 - 4 * length m) 0)) (take_all (length m) m (omega arith))

@@ -6,19 +6,19 @@ pub offset_bounds-self-place : goal.offset_bounds-self-place
 offset_bounds-self-place c =
     let t = c.args.self.now in
     let s = at t c.loop-i._i (omega arith) c.loop-i.place c.loop-i.invariant in
-    omega (arith, s.within, t.ok.1)
+    omega (arith, s.within, t.small)
 
 pub bounds-self-place : goal.bounds-self-place
 bounds-self-place c =
     let t = c.args.self.now in
     let s = at t c.loop-i._i (omega arith) c.loop-i.place c.loop-i.invariant in
-    omega (arith, s.within, t.ok.0)
+    omega (arith, s.within, t.room)
 
 pub overflow_add-place-in-loop-i : goal.overflow_add-place-in-loop-i
 overflow_add-place-in-loop-i c =
     let t = c.args.self.now in
     let s = at t c.loop-i._i (omega arith) c.loop-i.place c.loop-i.invariant in
-    omega (arith, s.within, s.size, t.ok.1)
+    omega (arith, s.within, s.size, t.small)
 
 pub loop-i-preserved : goal.loop-i-preserved
 loop-i-preserved c =

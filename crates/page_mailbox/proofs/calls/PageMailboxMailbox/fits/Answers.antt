@@ -1,6 +1,6 @@
-use Rattle.std.proofs.Common.{arith}
+use Rattle.std.proofs.Common.{sym}
 use Rattle.page_mailbox.proofs.Holds.{takes_is}
 use Rattle.page_mailbox.proofs.calls.PageMailboxMailbox.fits.Goals as goal
 
-pub returns : goal.returns
-returns c = takes_is c.args.self.now c.args.n (omega arith) (omega arith)
+pub returns-then-is_sized : goal.returns-then-is_sized
+returns-then-is_sized c = takes_is c.args.self.now c.args.n (sym c.if-is_sized.ensures)

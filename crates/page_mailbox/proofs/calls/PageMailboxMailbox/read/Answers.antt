@@ -1,28 +1,36 @@
-use Rattle.std.proofs.Common.{◌≡◌, ◌+◌, ◌-◌, ◌*◌, ◌≤◌, [], length, get_or, take, drop, sym, ap, ◌∙◌, arith}
-use Rattle.std.proofs.lemmas.List.{length-take-le, length-drop}
+use Rattle.std.proofs.Common.{◌≡◌, ℕ, ◌*◌, ◌/◌, ◌<◌, List, [], length, get_or, take, drop, sym, ap, ◌∙◌, arith}
 use Rattle.words.specs.Writes.{put}
 use Rattle.layouts.specs.Pages.{page_message}
 use Rattle.layouts.specs.Mounts.{full}
 use Rattle.layouts.proofs.Calls.{read_past, read_there}
+use Rattle.layouts.proofs.PageBytes.{chunk_at}
 use Rattle.layouts.proofs.PageLists.{page_at}
 use Rattle.page_mailbox.specs.Stores.{memory_of, waiting_of}
 use Rattle.page_mailbox.proofs.Holds.{room, held_few, held_is, full_at}
 use Rattle.page_mailbox.proofs.calls.PageMailboxMailbox.read.Goals as goal
+use Rattle.page_mailbox.proofs.calls.PageMailboxMailbox.read.Goals.{After-as_chunks}
 
 pub returns-then-k-self : goal.returns-then-k-self
 returns-then-k-self c =
     let t = c.args.self.now in
-    let r = read_past (waiting_of t) c.args.k c.args.words.now c.if-words-lt127.false (omega (arith, held_is t, c.if-k-self.true)) in
+    let r = read_past (waiting_of t) c.args.k c.args.words.now c.if-words-lt-LONGEST.false (omega (arith, held_is t, c.if-k-self.true)) in
     record { answer = r.0; words = r.1 }
 
-pub overflow_mul-place : goal.overflow_mul-place
-overflow_mul-place c = omega (arith, room c.args.self.now, held_few c.args.self.now)
+below : (c : goal.After-as_chunks) → c.args.k < length (memory_of c.args.self.now) / 512
+below c = let t = c.args.self.now in omega (arith, room t, held_few t)
 
-pub overflow_add-place : goal.overflow_add-place
-overflow_add-place c = omega (arith, room c.args.self.now, held_few c.args.self.now)
+-- page k of the bytes
+page : (c : goal.After-as_chunks) (d : List ℕ) → get_or c.as_chunks.result.0.now c.args.k d ≡ take 512 (drop (512 * c.args.k) (memory_of c.args.self.now))
+page c d = let bs = memory_of c.args.self.now in ap (λ x. get_or x c.args.k d) c.as_chunks.ensures.front ∙ chunk_at 512 (length bs / 512) c.args.k bs d (below c)
 
-pub slice_bounds-unpack-end : goal.slice_bounds-unpack-end
-slice_bounds-unpack-end c = omega (arith, room c.args.self.now, held_few c.args.self.now)
+pub offset_bounds-pages-k : goal.offset_bounds-pages-k
+offset_bounds-pages-k c = let t = c.args.self.now in omega (arith, room t, held_few t)
+
+pub bounds-pages-k : goal.bounds-pages-k
+bounds-pages-k c = omega (arith, below (goal.at.bounds-pages-k c).After-as_chunks, c.as_chunks.ensures.front_len)
+
+pub unpack-requires-clause-full : goal.unpack-requires-clause-full
+unpack-requires-clause-full c = ap full (page (goal.at.unpack-requires-clause-full c).After-as_chunks _) ∙ full_at c.args.self.now c.args.k (omega arith)
 
 pub returns : goal.returns
 returns c =
@@ -30,20 +38,7 @@ returns c =
     let k = c.args.k in
     let ms = waiting_of t in
     let old = c.args.words.now in
-    let e : 512 * k + 512 - 512 * k ≡ 512 = omega arith in
-    let g : page_message (take (512 * k + 512 - 512 * k) (drop (512 * k) (memory_of t))) ≡ get_or ms k [] = ap (λ x. page_message (take x (drop (512 * k) (memory_of t)))) e ∙ sym (page_at t.held k (memory_of t) c.if-k-self.false) in
-    let r = read_there ms k old c.if-words-lt127.false c.unpack-n.result _ (omega (arith, held_is t, c.if-k-self.false)) (c.unpack-n.ensures.size ∙ ap length g) (c.unpack-n.ensures.words ∙ ap (put old 0) g) in
+    let at = page (goal.at.returns c).After-as_chunks in
+    let m : (d : List ℕ) → page_message (get_or c.as_chunks.result.0.now k d) ≡ get_or ms k [] = λ d. ap page_message (at d) ∙ sym (page_at t.held k (memory_of t) (omega arith)) in
+    let r = read_there ms k old c.if-words-lt-LONGEST.false _ _ (omega (arith, held_is t, c.if-k-self.false)) (c.unpack.ensures.size ∙ ap length (m _)) (c.unpack.ensures.words ∙ ap (put old 0) (m _)) in
     record { answer = r.0; words = r.1 }
-
-pub unpack-n-requires : goal.unpack-n-requires
-unpack-n-requires c =
-    let t = c.args.self.now in
-    let k = c.args.k in
-    let e : 512 * k + 512 - 512 * k ≡ 512 = omega arith in
-    let d : 512 ≤ length (drop (512 * k) (memory_of t)) = simp length-drop (omega (arith, room t, held_few t)) in
-    let page : take (512 * k + 512 - 512 * k) (drop (512 * k) (memory_of t)) ≡ take 512 (drop (512 * k) (memory_of t)) = ap (λ x. take x (drop (512 * k) (memory_of t))) e in
-    record {
-      long = ap length page ∙ length-take-le 512 (drop (512 * k) (memory_of t)) d;
-      full = ap full page ∙ full_at t k c.if-k-self.false;
-      room = c.if-words-lt127.false;
-    }
