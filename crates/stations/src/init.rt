@@ -8,22 +8,23 @@ ghost use Rattle.stations.specs.Stored.{station_of};
 ghost use Rattle.stations.specs.Tables.{init_answer, all_fresh};
 
 use crate::station::Station;
+use crate::table::MOST;
+use counters::vector_clock::VectorClock;
 use crdt::kind::Crdt;
 use words::refusal::Refusal;
 
-// The most stations of a table.
-const MOST: usize = 16;
-
 impl<C: Crdt> Station<C> {
-    // Makes it the station of a number before its first call.
-    pub(crate) fn clear(&mut self, number: usize)
-        ensures { station_of C.Crdt self.new ≡ fresh C.Crdt number }
+    // The station of a number before its first call.
+    pub fn new(number: usize) -> Station<C>
+        ensures { station_of C.Crdt result ≡ fresh C.Crdt number }
     {
-        self.number = number;
-        self.clock = <counters::vector_clock::VectorClock as Crdt>::bottom();
-        self.record = C::bottom();
-        self.pending = C::bottom();
-        self.sent = 0;
+        Station {
+            number,
+            clock: VectorClock::bottom(),
+            record: C::bottom(),
+            pending: C::bottom(),
+            sent: 0,
+        }
     }
 }
 
@@ -38,8 +39,8 @@ pub fn init<C: Crdt>(stations: &mut [Station<C>]) -> Result<(), Refusal>
     if stations.is_empty() || stations.len() > MOST {
         return Err(Refusal::Station);
     }
-    for i in 0..stations.len() {
-        stations[i].clear(i);
+    for (i, station) in stations.iter_mut().enumerate() {
+        *station = Station::new(i);
     }
     Ok(())
 }

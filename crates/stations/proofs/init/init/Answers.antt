@@ -10,7 +10,7 @@ use Rattle.stations.proofs.init.init.Goals as goal
 
 pub loop-i-preserved : goal.loop-i-preserved
 loop-i-preserved g c =
-    fresh_more g.C.Crdt c.loop-i.stations c.loop-i.i c.clear.new.self (omega arith) c.loop-i.invariant c.clear.ensures
+    fresh_more g.C.Crdt c.loop-i.stations c.loop-i.i c.new.result (omega arith) c.loop-i.invariant c.new.ensures
 
 pub returns : goal.returns
 returns g c =
