@@ -3,14 +3,14 @@ use Rattle.std.proofs.Common.{◌≡◌, ℕ, ◌+◌, ◌-◌, ◌<◌, ◌≤�
 use Rattle.std.proofs.lemmas.List.{take-append-le, take_all}
 use Rattle.words.specs.declared.fault.Fault.{Fault}
 use Rattle.words.specs.declared.fault.Layer.TheVariants as layer
-use Rattle.words.specs.Readings.{Told, told_fault}
+use Rattle.words.specs.Readings.{Told, told_fault, plain_fault}
 use Rattle.words.specs.Refusals.{bare}
 use Rattle.words.specs.Writes.{most, put}
 use Rattle.crdt.specs.declared.kind.Crdt.{Ghosts}
 use Rattle.mailboxes.specs.Mailboxes.{counted, read_answer, read_leaves, Kept}
 use Rattle.wire.specs.Openings.{unpacked}
 use Rattle.histories.specs.Clusters.{Station as Meant, found}
-use Rattle.histories.specs.Calls.{plainly, hearing_opened, fetching, fetched_if}
+use Rattle.histories.specs.Calls.{hearing_opened, fetching, fetched_if}
 use Rattle.stations.specs.declared.station.Station.{Station}
 use Rattle.stations.specs.Stored.{station_of, Here}
 use Rattle.stations.proofs.Tables.{found_here}
@@ -30,14 +30,14 @@ some_of [] s h = absurd (omega arith)
 some_of (x ∷ xs) s h = x
 
 -- a read that is refused, and one that is done
-read_err_by : {X : Type 0} (b c : Bool) (len : ℕ) (o : Result X Told) (n : ℕ) → Err n ≡ cond b (Err 6) (cond c (Ok len) (Err 9)) → cond b (Err (plainly layer.Mailbox 6)) (cond c o (Err (plainly layer.Mailbox 9))) ≡ Err (plainly layer.Mailbox n)
-read_err_by true c len o n e = let h : n ≡ 6 = cc in ap (λ m. Err (plainly layer.Mailbox m)) (sym h)
+read_err_by : {X : Type 0} (b c : Bool) (len : ℕ) (o : Result X Told) (n : ℕ) → Err n ≡ cond b (Err 6) (cond c (Ok len) (Err 9)) → cond b (Err (plain_fault layer.Mailbox 6)) (cond c o (Err (plain_fault layer.Mailbox 9))) ≡ Err (plain_fault layer.Mailbox n)
+read_err_by true c len o n e = let h : n ≡ 6 = cc in ap (λ m. Err (plain_fault layer.Mailbox m)) (sym h)
 read_err_by false true len o n e = let z : ◌≡◌ {A = ℕ} 0 1 = cc in absurd (omega arith)
-read_err_by false false len o n e = let h : n ≡ 9 = cc in ap (λ m. Err (plainly layer.Mailbox m)) (sym h)
+read_err_by false false len o n e = let h : n ≡ 9 = cc in ap (λ m. Err (plain_fault layer.Mailbox m)) (sym h)
 
 pub record Done {X : Type 0} (b c : Bool) (len n : ℕ) (o : Result X Told) (old new : List ℕ) : Type 0 where
   pub long : n ≡ len
-  pub heard : cond b (Err (plainly layer.Mailbox 6)) (cond c o (Err (plainly layer.Mailbox 9))) ≡ o
+  pub heard : cond b (Err (plain_fault layer.Mailbox 6)) (cond c o (Err (plain_fault layer.Mailbox 9))) ≡ o
   pub leaves : cond b old (cond c new old) ≡ new
 
 read_ok_by : {X : Type 0} (b c : Bool) (len n : ℕ) (o : Result X Told) (old new : List ℕ) → ◌≡◌ {A = Result ℕ ℕ} (Ok n) (cond b (Err 6) (cond c (Ok len) (Err 9))) → Done b c len n o old new
@@ -46,7 +46,7 @@ read_ok_by false true len n o old new e = record { long = cc; heard = refl; leav
 read_ok_by false false len n o old new e = let z : ◌≡◌ {A = ℕ} 0 1 = cc in absurd (omega arith)
 
 module _ {S R : Type 0} (K : Ghosts S R) (ws : List (List ℕ)) (s k : ℕ) (old : List ℕ) (st : Meant K.Value) where
-  pub fetch_unread : (n : ℕ) → Err n ≡ read_answer ws k (length old) → fetching K ws s k (length old) (Ok st) ≡ Err (plainly layer.Mailbox n)
+  pub fetch_unread : (n : ℕ) → Err n ≡ read_answer ws k (length old) → fetching K ws s k (length old) (Ok st) ≡ Err (plain_fault layer.Mailbox n)
   fetch_unread n e = read_err_by (ltb (length old) most) (ltb k (counted ws)) _ _ n e
 
   -- message k was read

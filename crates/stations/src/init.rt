@@ -1,10 +1,10 @@
 // The beginning of a table of stations.
-ghost use Rattle.std.specs.Prelude.{◌≡◌, map, length, OnOk};
+ghost use Rattle.std.specs.Prelude.{◌≡◌, length, OnOk};
 ghost use Rattle.words.specs.Refusals.{numbered};
 ghost use Rattle.mailboxes.specs.Mailboxes.{Kept};
 ghost use Rattle.histories.specs.Clusters.{fresh};
 ghost use Rattle.histories.specs.Promises.{PromisedFrom};
-ghost use Rattle.stations.specs.Stored.{station_of};
+ghost use Rattle.stations.specs.Stored.{station_of, stations_of};
 ghost use Rattle.stations.specs.Tables.{init_answer, all_fresh};
 
 use crate::station::Station;
@@ -32,8 +32,8 @@ impl<C: Crdt> Station<C> {
 // keeps what is promised of histories.
 pub fn init<C: Crdt>(stations: &mut [Station<C>]) -> Result<(), Refusal>
     ensures answer { numbered result ≡ init_answer (length stations.old) }
-    ensures fresh { OnOk result (map (station_of C.Crdt) stations.new ≡ all_fresh C.Crdt 0 (length stations.old)) }
-    ensures promised { OnOk result (PromisedFrom C.Crdt (map (station_of C.Crdt) stations.new)) }
+    ensures fresh { OnOk result (stations_of C.Crdt stations.new ≡ all_fresh C.Crdt 0 (length stations.old)) }
+    ensures promised { OnOk result (PromisedFrom C.Crdt (stations_of C.Crdt stations.new)) }
     ensures refused { Kept result stations.old stations.new }
 {
     if stations.is_empty() || stations.len() > MOST {
