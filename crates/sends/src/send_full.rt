@@ -15,6 +15,7 @@ use words::refusal::Refusal;
 use words::word::LONGEST;
 
 // Puts a full message of station s into the mailbox, and leaves it at the front of the given words. Answers its length.
+// The shared steps stand here and in send_delta: a helper would take the packing as a closure over the words, and say of it all that pack_full says.
 pub fn send_full<C: Crdt, M: Mailbox>(
     stations: &[Station<C>],
     mailbox: &mut M,
