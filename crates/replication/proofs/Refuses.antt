@@ -13,9 +13,9 @@ goes_on K laws y z c a step start n fresh h lawful at =
     let more : Lawful K start (did c a z ∷ h) = (subst (λ x. Step K x c a z) (sym at) step, lawful) in
     (more, histories_promised K laws start n fresh (did c a z ∷ h) more)
 
-pub in_any_case : {T E : Type 0} (r : Result T E) (P : Type 0) → P → OnErr r P
-in_any_case (Ok x) P p = tt
-in_any_case (Err e) P p = p
+pub in_any_case : {T E : Type 0} (r : Result T E) {A B : Type 0} → A → B → OnErr r (A × B)
+in_any_case (Ok x) a b = tt
+in_any_case (Err e) a b = (a, b)
 
 -- a call c, which is asked as d and whose answer is told as a and b, from cluster y to z, given words old and left new
 pub record Owed {S R : Type 0} (K : Ghosts S R) (y z : Cluster K.Value) (c : Call R) (a : Said) (old new : List ℕ) : Type 0 where

@@ -31,7 +31,7 @@ loop-i-preserved g c =
     let i = c.loop-i.i in
     let low : i < length c.args.calls.now = omega arith in
     let room : i < length c.loop-i.answers = omega arith in
-    let x = c.loop-i.call in
+    let x = c.index-calls-i.result in
     let y = cluster_of K P c.loop-i.stations c.loop-i.mailbox in
     let z = cluster_of K P c.perform.new.stations c.perform.new.mailbox in
     let now = c.loop-i.words in
@@ -39,7 +39,7 @@ loop-i-preserved g c =
     let given = c.loop-i.auto.words in
     let step = subst (λ n. Step K y (asked n x) (told c.perform.result) z) given c.perform.ensures.step in
     let leaves = subst (λ n. new ≡ words_after K y (asked n x) now) given c.perform.ensures.words in (
-      ran_on K (length c.init.new.stations) (P.takes c.args.mailbox.now) c.args.words.now (asked (length c.args.words.now)) told c.args.calls.now c.loop-i.answers i x c.perform.result low c.loop-i.call-is room now new y z c.loop-i.invariant.0 step leaves,
+      ran_on K (length c.init.new.stations) (P.takes c.args.mailbox.now) c.args.words.now (asked (length c.args.words.now)) told c.args.calls.now c.loop-i.answers i x c.perform.result low c.index-calls-i.is room now new y z c.loop-i.invariant.0 step leaves,
       λ j past. drop-set-lt j c.loop-i.answers i c.perform.result (omega arith) ∙ c.loop-i.invariant.1 j (omega arith),
     )
 
