@@ -25,12 +25,11 @@ only_past i n j low past = only_at i n j low ∙ ap (λ x. x % 65536) (cond-fals
 
 module _ (xs : List ℕ) (i n : ℕ) (small : n ≤ 65535) where
   -- a lower count is stored anew
-  pub raised_set : i < 16 → length xs ≡ 16 → get_or xs i 0 % 65536 < n → clock_of (set xs i n) ≡ raised (clock_of xs) i n
+  pub raised_set : i < 16 → length xs ≡ 16 → entry (clock_of xs) i < n → clock_of (set xs i n) ≡ raised (clock_of xs) i n
   raised_set low long less = same_clock _ _ (λ j h. raised_by (λ k m. entry (clock_of (set xs i n)) k ≡ m) (clock_of xs) i n low small here there j)
     where
       here : entry (clock_of (set xs i n)) i ≡ max (entry (clock_of xs) i) n
       here =
-          let a = stored xs i low in
           let within : i < length xs = omega arith in
           let b : entry (clock_of (set xs i n)) i ≡ n = stored (set xs i n) i low ∙ ap (λ x. x % 65536) (get_or-set_same xs i n 0 within) ∙ mod-eq_of_lt (omega arith) in
           omega arith
@@ -42,10 +41,10 @@ module _ (xs : List ℕ) (i n : ℕ) (small : n ≤ 65535) where
       ]
 
   -- one that is not lower stays, and so do all where there is no such station
-  pub raised_kept : (i < 16 → n ≤ get_or xs i 0 % 65536) → clock_of xs ≡ raised (clock_of xs) i n
+  pub raised_kept : (i < 16 → n ≤ entry (clock_of xs) i) → clock_of xs ≡ raised (clock_of xs) i n
   raised_kept high = elim (cases_lt i 16) [
     | inl low ↦
-        same_clock _ _ (λ j h. raised_by (λ k m. entry (clock_of xs) k ≡ m) (clock_of xs) i n low small (let a = stored xs i low in let b = high low in omega arith) (λ k other. omega arith) j)
+        same_clock _ _ (λ j h. raised_by (λ k m. entry (clock_of xs) k ≡ m) (clock_of xs) i n low small (let b = high low in omega arith) (λ k other. omega arith) j)
     | inr past ↦
         same_clock _ _ (λ j h. let a = entry_larger (clock_of xs) (only i n) j in let b = only_past i n j h past in omega arith)
   ]

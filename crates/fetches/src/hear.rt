@@ -10,7 +10,6 @@ ghost use Rattle.histories.specs.Clusters.{raised};
 ghost use Rattle.histories.specs.Calls.{hearing, hearing_opened};
 ghost use Rattle.stations.specs.Stored.{station_of};
 
-use crate::fault::plain;
 use counters::vector_clock::VectorClock;
 use crdt::kind::Crdt;
 use messages::header::Header;
@@ -24,10 +23,7 @@ fn raise(clock: &mut VectorClock, station: usize, to: u32)
     requires { to ≤ 65535 }
     ensures { clock_of clock.new.counts ≡ raised (clock_of clock.old.counts) station to }
 {
-    if station >= 16 {
-        return;
-    }
-    if clock.counts[station] % 0x1_0000 < to {
+    if station < 16 && clock.count(station) < to {
         clock.counts[station] = to;
     }
 }
@@ -47,7 +43,7 @@ fn hear<C: Crdt>(
     match header {
         Header::Full { sender: _ } => {
             if clock.count(station.number) > own {
-                return Err(plain(Refusal::Ahead, Layer::Station));
+                return Err(Fault::plain(Refusal::Ahead, Layer::Station));
             }
             station.clock.join(clock);
             station.record.join(record);
@@ -55,7 +51,7 @@ fn hear<C: Crdt>(
         }
         Header::Delta { sender, span } => {
             if sender == station.number && span.to > own {
-                return Err(plain(Refusal::Ahead, Layer::Station));
+                return Err(Fault::plain(Refusal::Ahead, Layer::Station));
             }
             if span.from > station.clock.count(sender) {
                 return Err(Fault {
@@ -77,7 +73,7 @@ pub(crate) fn receive<C: Crdt>(station: &mut Station<C>, words: &[u32]) -> Resul
     ensures after { station_of C.Crdt station.new ≡ value_or (station_of C.Crdt station.old) (hearing_opened C.Crdt station.old.number (station_of C.Crdt station.old) (unpacked C.Crdt words.now)) }
     ensures refused { Kept result station.old station.new }
 {
-    let mut clock = <VectorClock as Crdt>::bottom();
+    let mut clock = VectorClock::bottom();
     let mut record = C::bottom();
     let header = unpack(words, &mut clock, &mut record)?;
     hear(station, header, &clock, &record)

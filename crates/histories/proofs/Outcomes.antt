@@ -2,13 +2,14 @@
 use Rattle.std.proofs.Common.{◌≡◌, ℕ, zero, suc, ◌<◌, ◌≤◌, Bool, true, false, cond, ◌≢◌, List, [], ◌∷◌, length, get_or, Ok, Err, Result, sym, refl, ap, ◌∙◌, arith}
 use Rattle.std.proofs.lemmas.Bool.{ltb-true, ltb-false, leb-false, eqb-true, eqb-false}
 use Rattle.words.specs.declared.fault.Layer.TheVariants as layer
+use Rattle.words.specs.Readings.{plain_fault}
 use Rattle.words.specs.Writes.{most}
 use Rattle.crdt.specs.declared.kind.Crdt.{Ghosts}
 use Rattle.mailboxes.specs.Mailboxes.{counted}
 use Rattle.wire.specs.Messages.{Message, full, delta, Clock, packed}
 use Rattle.wire.specs.Openings.{unpacked}
 use Rattle.histories.specs.Clusters.{Station, entry, at_place, bearing, found}
-use Rattle.histories.specs.Calls.{plainly, with_delta, reporting, posting, emptied, sending_delta, sending_full, hearing, hearing_opened, fetching}
+use Rattle.histories.specs.Calls.{with_delta, reporting, posting, emptied, sending_delta, sending_full, hearing, hearing_opened, fetching}
 use Rattle.histories.proofs.Sound.{with_report, with_message, Reaches}
 
 module _ {X E : Type 0} where
@@ -135,7 +136,7 @@ module _ {S R : Type 0} (K : Ghosts S R) where
         let p = passes _ _ _ after e in
         let q = passes_else _ _ _ after p.1 in
         record { before = st; known = found_was ts s st is; waits = ltb-true k (counted ws) q.0; heard = q.1 }
-    fetch_was (Err n) is e = never_ok (plainly layer.Station n) after e
+    fetch_was (Err n) is e = never_ok (plain_fault layer.Station n) after e
 
     pub fetched_was : fetching K ws s k room (found K ts s) ≡ Ok after → Fetched ws ts s k after
     fetched_was e = fetch_was (found K ts s) refl e

@@ -1,10 +1,12 @@
 -- What the laws of a kind give of joins of deltas. Assumes nothing.
-use Rattle.std.proofs.Common.{◌≡◌, ℕ, suc, ◌≤◌, Bool, true, false, cond, ◌&&◌, ◌||◌, eqb, ltb, leb, List, [], ◌∷◌, sym, refl, ap, ◌∙◌, arith}
+use Rattle.std.proofs.Common.{◌≡◌, ℕ, suc, ◌≤◌, Bool, true, false, cond, ◌&&◌, ◌||◌, eqb, ltb, leb, List, [], ◌∷◌, ◌++◌, sym, refl, ap, ◌∙◌, arith}
 use Rattle.std.proofs.lemmas.Bool.{cond-true, cond-false, cond_both, eq-eqb}
 use Rattle.std.specs.List.{AllByRecursion}
+use Rattle.words.specs.Readings.{read}
 use Rattle.crdt.specs.declared.kind.Crdt.{Ghosts}
 use Rattle.wire.specs.Messages.{Clock}
 use Rattle.wire.specs.Openings.{OneToOne}
+use Rattle.wire.proofs.Laws.{both_ways}
 use Rattle.histories.specs.Clusters.{entry}
 use Rattle.histories.specs.Histories.{Accepted, report_count, covered, spanned, join_of}
 
@@ -15,6 +17,16 @@ pub record Laws {S R : Type 0} (K : Ghosts S R) : Type 0 where
   pub idem : (a : K.Value) → K.joined a a ≡ a
   pub neutral : (a : K.Value) → K.joined a K.least ≡ a
   pub wire : OneToOne K
+
+-- from the laws of its trait
+pub laws_of : {S R : Type 0} (K : Ghosts S R) →
+    ((a b c : K.Value) → K.joined (K.joined a b) c ≡ K.joined a (K.joined b c)) →
+    ((a b : K.Value) → K.joined a b ≡ K.joined b a) →
+    ((a : K.Value) → K.joined a a ≡ a) →
+    ((a : K.Value) → K.joined a K.least ≡ a) →
+    ((v : K.Value) (ws : List ℕ) → K.reading (K.written v ++ ws) ≡ read v ws) →
+    ((ws : List ℕ) (v : K.Value) (more : List ℕ) → K.reading ws ≡ read v more → ws ≡ K.written v ++ more) → Laws K
+laws_of K assoc comm idem neutral reads exact = record { assoc = assoc; comm = comm; idem = idem; neutral = neutral; wire = both_ways K reads exact }
 
 -- counts c cover report k of station i
 abbrev pub covers : (ℕ → ℕ) → ℕ → ℕ → Bool

@@ -8,9 +8,8 @@
 --     waiting_after K y c          the messages that wait after it
 --     Step K y c a z               call c, made in cluster y, answers a and leaves cluster z
 use Rattle.std.specs.Prelude.{◌≡◌, ℕ, ◌+◌, Bool, cond, ◌&&◌, List, [], ◌∷◌, ◌++◌, length, Ok, Err, Result, ◌==◌, nat_le, nat_lt, slice_index_or, slice_set}
-use Rattle.words.specs.declared.fault.Layer.{Layer}
 use Rattle.words.specs.declared.fault.Layer.TheVariants as layer
-use Rattle.words.specs.Readings.{Told}
+use Rattle.words.specs.Readings.{Told, plain_fault}
 use Rattle.words.specs.Writes.{most}
 use Rattle.crdt.specs.declared.kind.Crdt.{Ghosts}
 use Rattle.counters.specs.Counts.{larger}
@@ -36,10 +35,6 @@ pub data Answer : Type 0 where
   room_for : Bool → Answer
   refused : ℕ → Answer
   faulted : (s k : ℕ) → Told → Answer
-
--- a refusal with no wrong word
-abbrev pub plainly : Layer → ℕ → Told
-plainly by n = record { number = n; place = 0; layer = by }
 
 -- a delta that begins after what the receiver has: the from word is named
 abbrev pub gap : Told
@@ -77,10 +72,10 @@ module _ {S R : Type 0} (K : Ghosts S R) where
   -- fetch
   abbrev pub hearing : ℕ → Station K.Value → Message Clock K.Value → Result (Station K.Value) Told
   hearing s st (full i c v) =
-      cond (nat_lt (entry st.clock s) (entry c s)) (Err (plainly layer.Station 15))
+      cond (nat_lt (entry st.clock s) (entry c s)) (Err (plain_fault layer.Station 15))
       (Ok (record { number = st.number; clock = larger st.clock c; held = K.joined st.held v; pending = st.pending; sent = st.sent }))
   hearing s st (delta i f t v) =
-      cond (i == s && nat_lt (entry st.clock s) t) (Err (plainly layer.Station 15))
+      cond (i == s && nat_lt (entry st.clock s) t) (Err (plain_fault layer.Station 15))
       (cond (nat_lt (entry st.clock i) f) (Err gap)
       (Ok (record { number = st.number; clock = raised st.clock i t; held = K.joined st.held v; pending = st.pending; sent = st.sent })))
 
@@ -90,9 +85,9 @@ module _ {S R : Type 0} (K : Ghosts S R) where
 
   abbrev pub fetching : List (List ℕ) → (s k room : ℕ) → Result (Station K.Value) ℕ → Result (Station K.Value) Told
   fetching ws s k room (Ok st) =
-      cond (nat_lt room most) (Err (plainly layer.Mailbox 6))
-      (cond (nat_lt k (counted ws)) (hearing_opened s st (unpacked K (slice_index_or ws k []))) (Err (plainly layer.Mailbox 9)))
-  fetching ws s k room (Err n) = Err (plainly layer.Station n)
+      cond (nat_lt room most) (Err (plain_fault layer.Mailbox 6))
+      (cond (nat_lt k (counted ws)) (hearing_opened s st (unpacked K (slice_index_or ws k []))) (Err (plain_fault layer.Mailbox 9)))
+  fetching ws s k room (Err n) = Err (plain_fault layer.Station n)
 
 -- what is answered, by what came of the call
 abbrev pub done_if : {X : Type 0} → Result X ℕ → Answer

@@ -40,10 +40,6 @@ sent_kept ws (Ok p) r was is e kept same = let l = length-append ws (p.0 ∷ [])
 sent_kept ws (Err n) (Ok y) was is e kept same = let z : ◌≡◌ {A = ℕ} 0 1 = cc in absurd (omega arith)
 sent_kept ws (Err n) (Err f) was is e kept same = kept
 
--- a step by other names of its call and its answer
-pub step_as : {S R : Type 0} (K : Ghosts S R) (y z : Cluster K.Value) (c d : Call R) (a b : Answer) → c ≡ d → a ≡ b → Step K y d b z → Step K y c a z
-step_as K y z c d a b e f step = subst (λ x. Step K y x a z) (sym e) (subst (λ x. Step K y d x z) (sym f) step)
-
 module _ {S R M : Type 0} (K : Ghosts S R) (P : Boxes M) where
   pub step_report : (ts after : List (Station S)) (m : M) (s : ℕ) (x : R) (r : Result (Unit {0}) Refusal) →
       numbered r ≡ bare (reporting K s x (found K (map (station_of K) ts) s)) →

@@ -6,7 +6,6 @@
 --     calls_of h, answers_of h         the calls of a history and their answers, the oldest first
 --     Ran                              a history of exactly these calls, with exactly these answers, from a fresh start to a cluster
 --     Replayed                         the same, and all that is promised of that history
---     IfRefused a P                    P, where answer a is a refusal
 --     GoesOn K y c a z                 whatever history led from a fresh start to cluster y, all that is promised of histories holds of it with call c
 --     replay_answer                    whether a list of so many calls is begun, by the room for answers, the messages that wait and the places of the table
 use Rattle.std.specs.Prelude.{◌≡◌, ℕ, Bool, cond, List, [], ◌∷◌, ◌++◌, Ok, Err, Result, nat_lt}
@@ -23,8 +22,10 @@ use Rattle.sends.specs.Sends.{sent_words}
 use Rattle.fetches.specs.Fetches.{fetch_leaves}
 use Rattle.replication.specs.declared.call.Call.{Call}
 use Rattle.replication.specs.declared.call.Call.TheVariants.{Report, SendDelta, SendFull, Fetch, Discard, Count, Fits, Read}
-use Rattle.replication.specs.declared.answer.Answer.{Answer}
-use Rattle.replication.specs.declared.answer.Answer.TheVariants as stored
+use Rattle.replication.specs.declared.answer.CallError.{CallError}
+use Rattle.replication.specs.declared.answer.CallError.TheVariants as error
+use Rattle.replication.specs.declared.answer.Reply.{Reply}
+use Rattle.replication.specs.declared.answer.Reply.TheVariants as reply
 use Rattle.replication.specs.declared.unready.Unready.{Unready}
 use Rattle.replication.specs.declared.unready.Unready.TheVariants as unready
 
@@ -38,19 +39,12 @@ asked room Count = count
 asked room (Fits n) = fits n
 asked room (Read k) = peek k room
 
-abbrev pub told : Answer → Said
-told stored.Done = done
-told (stored.Number n) = number n
-told (stored.Fits b) = room_for b
-told (stored.Refused e) = refused (number_of e)
-told (stored.Faulted f) = faulted f.station f.message (told_fault f.fault)
-
-abbrev pub IfRefused : Answer → Type 0 → Type 0
-IfRefused stored.Done P = Unit {0}
-IfRefused (stored.Number n) P = Unit {0}
-IfRefused (stored.Fits b) P = Unit {0}
-IfRefused (stored.Refused e) P = P
-IfRefused (stored.Faulted f) P = P
+abbrev pub told : Result Reply CallError → Said
+told (Ok reply.Done) = done
+told (Ok (reply.Number n)) = number n
+told (Ok (reply.Fits b)) = room_for b
+told (Err (error.Refused e)) = refused (number_of e)
+told (Err (error.Faulted f)) = faulted f.station f.message (told_fault f.fault)
 
 abbrev pub table_ready : Result (Unit {0}) ℕ → Result (Unit {0}) Unready
 table_ready (Ok u) = Ok u

@@ -32,12 +32,10 @@ pub fn replay<C: Crdt, M: Mailbox>(
     if mailbox.count() != 0 {
         return Err(Unready::Mailbox);
     }
-    match init(stations) {
-        Ok(()) => {}
-        Err(_) => return Err(Unready::Table),
-    }
-    for i in 0..calls.len() {
-        answers[i] = perform(stations, mailbox, &calls[i], words);
+    init(stations).map_err(|_| Unready::Table)?;
+    // By index: of what a loop over `answers.iter_mut().zip(calls)` has written no proof knows anything.
+    for (i, call) in calls.iter().enumerate() {
+        answers[i] = perform(stations, mailbox, call, words);
     }
     Ok(())
 }

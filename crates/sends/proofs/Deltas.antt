@@ -1,8 +1,10 @@
 -- What a send of a delta message comes to. Assumes nothing.
-use Rattle.std.proofs.Common.{◌≡◌, ℕ, ◌+◌, ◌<◌, ◌≤◌, min, Bool, false, ltb, List, map, length, get_or, set, Ok, Err, Result, sym, ap, ◌∙◌, subst, arith}
+use Rattle.std.proofs.Common.{◌≡◌, ℕ, ◌+◌, ◌<◌, ◌≤◌, min, Bool, false, ltb, List, map, length, get_or, set, Ok, Err, Result, Some, None, Option, is_some, refl, sym, ap, ◌∙◌, subst, arith}
 use Rattle.std.proofs.lemmas.List.{map-set, get_or-set_other}
 use Rattle.std.proofs.lemmas.Bool.{le-ltb, ltb-false, eq-eqb, ne_eqb, cond-true, cond-false}
+use Rattle.std.specs.Option.{ok_or}
 use Rattle.words.specs.declared.refusal.Refusal.{Refusal}
+use Rattle.words.specs.declared.refusal.Refusal.TheVariants as why
 use Rattle.words.specs.Writes.{capped}
 use Rattle.crdt.specs.declared.kind.Crdt.{Ghosts}
 use Rattle.counters.specs.Counts.{clock_of}
@@ -37,6 +39,11 @@ module _ {X Y W E : Type 0} (f : X → Y) (s : ℕ) (what : Result (W × Y) E) (
     others = λ k d ne. get_or-set_other was s k y d ne;
     refused = tt;
   }
+
+-- a span that is missing
+pub no_span : {X : Type 0} (o : Option X) (e : Refusal) → Err e ≡ ok_or o why.Nothing → (is_some o ≡ false) × (e ≡ why.Nothing)
+no_span None e h = (refl, cc)
+no_span (Some x) e h = let z : ◌≡◌ {A = ℕ} 0 1 = cc in absurd (omega arith)
 
 module _ {S R : Type 0} (K : Ghosts S R) (ts : List (Station S)) (s : ℕ) (d : Station S) (here : Here ts s) (takes : ℕ → Bool) (room : ℕ) where
   abbrev pub stored : Station S

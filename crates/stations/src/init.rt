@@ -1,29 +1,30 @@
 // The beginning of a table of stations.
-ghost use Rattle.std.specs.Prelude.{◌≡◌, map, length, OnOk};
+ghost use Rattle.std.specs.Prelude.{◌≡◌, length, OnOk};
 ghost use Rattle.words.specs.Refusals.{numbered};
 ghost use Rattle.mailboxes.specs.Mailboxes.{Kept};
 ghost use Rattle.histories.specs.Clusters.{fresh};
 ghost use Rattle.histories.specs.Promises.{PromisedFrom};
-ghost use Rattle.stations.specs.Stored.{station_of};
+ghost use Rattle.stations.specs.Stored.{station_of, stations_of};
 ghost use Rattle.stations.specs.Tables.{init_answer, all_fresh};
 
 use crate::station::Station;
+use crate::table::MOST;
+use counters::vector_clock::VectorClock;
 use crdt::kind::Crdt;
 use words::refusal::Refusal;
 
-// The most stations of a table.
-const MOST: usize = 16;
-
 impl<C: Crdt> Station<C> {
-    // Makes it the station of a number before its first call.
-    pub(crate) fn clear(&mut self, number: usize)
-        ensures { station_of C.Crdt self.new ≡ fresh C.Crdt number }
+    // The station of a number before its first call.
+    pub fn new(number: usize) -> Station<C>
+        ensures { station_of C.Crdt result ≡ fresh C.Crdt number }
     {
-        self.number = number;
-        self.clock = <counters::vector_clock::VectorClock as Crdt>::bottom();
-        self.record = C::bottom();
-        self.pending = C::bottom();
-        self.sent = 0;
+        Station {
+            number,
+            clock: VectorClock::bottom(),
+            record: C::bottom(),
+            pending: C::bottom(),
+            sent: 0,
+        }
     }
 }
 
@@ -31,15 +32,15 @@ impl<C: Crdt> Station<C> {
 // keeps what is promised of histories.
 pub fn init<C: Crdt>(stations: &mut [Station<C>]) -> Result<(), Refusal>
     ensures answer { numbered result ≡ init_answer (length stations.old) }
-    ensures fresh { OnOk result (map (station_of C.Crdt) stations.new ≡ all_fresh C.Crdt 0 (length stations.old)) }
-    ensures promised { OnOk result (PromisedFrom C.Crdt (map (station_of C.Crdt) stations.new)) }
+    ensures fresh { OnOk result (stations_of C.Crdt stations.new ≡ all_fresh C.Crdt 0 (length stations.old)) }
+    ensures promised { OnOk result (PromisedFrom C.Crdt (stations_of C.Crdt stations.new)) }
     ensures refused { Kept result stations.old stations.new }
 {
     if stations.is_empty() || stations.len() > MOST {
         return Err(Refusal::Station);
     }
-    for i in 0..stations.len() {
-        stations[i].clear(i);
+    for (i, station) in stations.iter_mut().enumerate() {
+        *station = Station::new(i);
     }
     Ok(())
 }

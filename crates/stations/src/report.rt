@@ -1,10 +1,9 @@
 // Reports to a station.
-ghost use Rattle.std.specs.Prelude.{◌≡◌, ◌<◌, map, Ok};
+ghost use Rattle.std.specs.Prelude.{◌≡◌, ◌<◌, Ok};
 ghost use Rattle.words.specs.Refusals.{numbered, bare, value_or};
 ghost use Rattle.mailboxes.specs.Mailboxes.{Kept};
-ghost use Rattle.histories.specs.Clusters.{found};
 ghost use Rattle.histories.specs.Calls.{reporting, changed};
-ghost use Rattle.stations.specs.Stored.{station_of};
+ghost use Rattle.stations.specs.Stored.{station_of, stations_of, station_at};
 ghost use Rattle.stations.specs.Tables.{Others};
 
 use crate::station::Station;
@@ -44,8 +43,8 @@ pub fn report<C: Crdt>(
     s: usize,
     report: C::Report,
 ) -> Result<(), Refusal>
-    ensures answer { numbered result ≡ bare (reporting C.Crdt s report (found C.Crdt (map (station_of C.Crdt) stations.old) s)) }
-    ensures stations { map (station_of C.Crdt) stations.new ≡ changed (map (station_of C.Crdt) stations.old) s (reporting C.Crdt s report (found C.Crdt (map (station_of C.Crdt) stations.old) s)) }
+    ensures answer { numbered result ≡ bare (reporting C.Crdt s report (station_at C.Crdt stations.old s)) }
+    ensures stations { stations_of C.Crdt stations.new ≡ changed (stations_of C.Crdt stations.old) s (reporting C.Crdt s report (station_at C.Crdt stations.old s)) }
     ensures others { Others s stations.old stations.new }
     ensures refused { Kept result stations.old stations.new }
 {

@@ -1,19 +1,22 @@
 // A table of stations.
-ghost use Rattle.std.specs.Prelude.{◌≡◌, map, OnOk};
+ghost use Rattle.std.specs.Prelude.{◌≡◌, OnOk};
 ghost use Rattle.words.specs.Refusals.{numbered, bare};
-ghost use Rattle.histories.specs.Clusters.{found};
-ghost use Rattle.stations.specs.Stored.{station_of, Here};
+ghost use Rattle.stations.specs.Stored.{station_at, Here};
 
 use crate::station::Station;
 use crdt::kind::Crdt;
 use words::refusal::Refusal;
 
+// The most stations of a table.
+pub(crate) const MOST: usize = 16;
+
 // Whether a table of at most 16 has a station s that bears its number.
+// The answer holds no station: no contract can say what a table becomes by a write through a `&mut` in a Result.
 pub fn find<C: Crdt>(stations: &[Station<C>], s: usize) -> Result<(), Refusal>
-    ensures answer { numbered result ≡ bare (found C.Crdt (map (station_of C.Crdt) stations.now) s) }
+    ensures answer { numbered result ≡ bare (station_at C.Crdt stations.now s) }
     ensures here { OnOk result (Here stations.now s) }
 {
-    if stations.len() > 16 || s >= stations.len() {
+    if stations.len() > MOST || s >= stations.len() {
         return Err(Refusal::Station);
     }
     if stations[s].number != s {

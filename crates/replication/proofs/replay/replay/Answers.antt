@@ -2,12 +2,12 @@ use Rattle.std.proofs.Common.{◌≡◌, ◌<◌, map, length, take, sym, refl, 
 use Rattle.std.proofs.lemmas.List.{take_all}
 use Rattle.histories.specs.Calls.{Step}
 use Rattle.histories.specs.Histories.{Fresh}
-use Rattle.histories.proofs.Overs.{Laws}
+use Rattle.histories.proofs.Overs.{laws_of}
 use Rattle.histories.proofs.Promised.{histories_promised}
 use Rattle.stations.specs.Stored.{cluster_of}
-use Rattle.wire.proofs.Laws.{both_ways}
+use Rattle.stations.proofs.Begins.{starts}
 use Rattle.replication.specs.Runs.{asked, told, words_after, table_ready, Ran, Replayed}
-use Rattle.replication.proofs.Begins.{none_wait, by_table, begins}
+use Rattle.replication.proofs.Begins.{none_wait, by_table, few, was_made, on_ok}
 use Rattle.replication.proofs.Grows.{ran_none, ran_on}
 use Rattle.replication.proofs.replay.replay.Goals as goal
 
@@ -17,9 +17,9 @@ loop-i-init g c =
     let P = g.M.Mailbox in
     let m = c.args.mailbox.now in
     let ts = c.init.new.stations in
-    let done = c.in-Ok.ensures in
+    let is = sym c.in_ok-map_err.ensures.variant in
     let none = none_wait (P.waiting m) _ c.count.ensures c.if-count-ne0.false in
-    let blank = begins K P ts m (length c.args.stations.now) c.in-Ok.field-0 done.answer done.fresh none in (
+    let blank = starts K (cluster_of K P ts m) (length c.args.stations.now) (few _ tt (sym (was_made _ _ is c.init.ensures.answer))) (on_ok _ _ is c.init.ensures.fresh) none in (
       ran_none K (length ts) (P.takes m) c.args.words.now (cluster_of K P ts m) (subst (λ n. Fresh K n (cluster_of K P ts m)) (sym c.init.auto.stations) blank) refl,
       λ j low. refl,
     )
@@ -61,9 +61,10 @@ returns g c =
     let went : Ran K n (P.takes m) (map f calls) said old c.loop-i.words z =
     subst (λ l. Ran K n (P.takes m) (map f l) said old c.loop-i.words z) all
     (subst (λ i. Ran K n (P.takes m) (map f (take i calls)) (map told (take i c.loop-i.answers)) old c.loop-i.words z) last c.loop-i.invariant.0) in
-    let laws : Laws K = record { assoc = k.assoc; comm = k.comm; idem = k.idem; neutral = k.neutral; wire = both_ways K k.reads k.exact } in
+    let laws = laws_of K k.assoc k.comm k.idem k.neutral k.reads k.exact in
+    let made = was_made _ _ (sym c.in_ok-map_err.ensures.variant) c.init.ensures.answer in
     record {
-      answer = ap table_ready c.in-Ok.ensures.answer ∙ sym (by_table (length calls) (length c.args.answers.now) (length c.args.stations.now) (P.waiting m) c.if-answers-calls.false none);
+      answer = sym (ap table_ready made) ∙ sym (by_table (length calls) (length c.args.answers.now) (length c.args.stations.now) (P.waiting m) c.if-answers-calls.false none);
       run = subst (λ s. Replayed K s (P.takes m) (map f calls) said old c.loop-i.words z) c.init.auto.stations
           (record { run = went; promised = histories_promised K laws went.start n went.fresh went.history went.lawful });
       answers = c.loop-i.invariant.1 (length calls) (omega arith);

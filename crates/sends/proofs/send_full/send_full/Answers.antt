@@ -32,7 +32,7 @@ returns-in_err-admit g c =
     let m = full_of K ts s e here is in
     let size = full_size K ts s e here is c.size.result c.size-2.result c.size.ensures c.size-2.ensures in
     let p = err_from_is_err_and c.from_residual-in_err-admit.result c.from_residual-in_err-admit.ensures.1 in
-    let what = full_what K ts s e here is takes (length ws) c.if-words-lt-MOST.false ∙ posting_refused K m takes (station_of K e) _ size _ c.in_err-admit.ensures in
+    let what = full_what K ts s e here is takes (length ws) c.if-words-lt-LONGEST.false ∙ posting_refused K m takes (station_of K e) _ size _ c.in_err-admit.ensures in
     let t = turned g.M.Mailbox.waiting _ c.from_residual-in_err-admit.result _ c.args.mailbox.now ws (p.1 ∙ ap Err p.2) what in
     record { answer = t.answer; mailbox = t.mailbox; refused = t.refused; words = t.words }
 
@@ -49,7 +49,7 @@ returns-in_err-n g c =
     let m = full_of K ts s e here is in
     let size = full_size K ts s e here is c.size.result c.size-2.result c.size.ensures c.size-2.ensures in
     let fit = posting_done K m takes (station_of K e) _ size _ c.in_ok-admit.ensures in
-    absurd (no_err _ _ _ _ c.in_err-n.was c.pack_full.ensures.answer (packed_answer K m ws (near K ts s e here is) fit.2 c.if-words-lt-MOST.false))
+    absurd (no_err _ _ _ _ c.in_err-n.was c.pack_full.ensures.answer (packed_answer K m ws (near K ts s e here is) fit.2 c.if-words-lt-LONGEST.false))
 
 pub returns-in_err-put : goal.returns-in_err-put
 returns-in_err-put g c =
@@ -64,7 +64,7 @@ returns-in_err-put g c =
     let m = full_of K ts s e here is in
     let size = full_size K ts s e here is c.size.result c.size-2.result c.size.ensures c.size-2.ensures in
     let fit = posting_done K m takes (station_of K e) _ size _ c.in_ok-admit.ensures in
-    let enough = c.if-words-lt-MOST.false in
+    let enough = c.if-words-lt-LONGEST.false in
     let low = near K ts s e here is in
     let n-is = answered c.in_ok-n.n (length (packed K m)) (c.in_ok-n.ensures.answer ∙ packed_answer K m ws low fit.2 enough) in
     absurd (no_err _ _ _ _ c.in_err-put.was c.put.ensures.answer (put_done K m ws low fit.2 enough c.pack_full.new.words c.in_ok-n.n c.pack_full.ensures.words n-is takes fit.3))
@@ -82,7 +82,7 @@ returns g c =
     let m = full_of K ts s e here is in
     let size = full_size K ts s e here is c.size.result c.size-2.result c.size.ensures c.size-2.ensures in
     let fit = posting_done K m takes (station_of K e) _ size _ c.in_ok-admit.ensures in
-    let enough = c.if-words-lt-MOST.false in
+    let enough = c.if-words-lt-LONGEST.false in
     let low = near K ts s e here is in
     let us = c.pack_full.new.words in
     let left = c.pack_full.ensures.words in
