@@ -2,20 +2,17 @@
 use Rattle.std.proofs.Common.{◌≡◌, ℕ, ◌+◌, ◌*◌, ◌<◌, ◌≤◌, Bool, true, false, cond, ◌&&◌, ltb, leb, List, length, get_or, drop, Some, None, Option, sym, refl, ◌∙◌, arith}
 use Rattle.std.proofs.lemmas.List.{at_drop_more, at_drop_all}
 use Rattle.std.proofs.lemmas.Bool.{lt-ltb, le-ltb, le-leb}
-use Rattle.scripts.specs.Numbers.{digit_of, digit_in, and_then, digits_on, number_of}
+use Rattle.scripts.specs.Numbers.{digit_in, and_then, digits_on, number_of}
 
 module _ (base n : ℕ) (t : List ℕ) (i : ℕ) (h : i < length t) where
   stepped : digits_on base n (drop i t) ≡ and_then (digit_in base (get_or t i 0)) (λ d. digits_on base (n * base + d) (drop (i + 1) t))
   stepped = at_drop_more (digits_on base n) t i 0 h
 
-  pub digit_more : (v : ℕ) → Some v ≡ digit_of (get_or t i 0) → v < base → digits_on base n (drop i t) ≡ digits_on base (n * base + v) (drop (i + 1) t)
-  digit_more v e low = stepped ∙ rw (sym e, lt-ltb v base low)
+  pub digit_more : (v : ℕ) → Some v ≡ digit_in base (get_or t i 0) → digits_on base n (drop i t) ≡ digits_on base (n * base + v) (drop (i + 1) t)
+  digit_more v e = stepped ∙ rw (sym e)
 
-  pub digit_none : None ≡ digit_of (get_or t i 0) → digits_on base n (drop i t) ≡ None
+  pub digit_none : None ≡ digit_in base (get_or t i 0) → digits_on base n (drop i t) ≡ None
   digit_none e = stepped ∙ rw (sym e)
-
-  pub digit_high : (v : ℕ) → Some v ≡ digit_of (get_or t i 0) → base ≤ v → digits_on base n (drop i t) ≡ None
-  digit_high v e high = stepped ∙ rw (sym e, le-ltb v base high)
 
 pub digits_all : (base n : ℕ) (t : List ℕ) (i : ℕ) → length t ≤ i → digits_on base n (drop i t) ≡ Some n
 digits_all base n t i h = at_drop_all (digits_on base n) t i h

@@ -1,6 +1,12 @@
 // The words of a line. A comment, from `#` on, has none.
-ghost use Rattle.std.specs.Prelude.{◌≡◌, ◌+◌, ◌<◌, ◌≤◌, true, false, length, take, drop, slice_index};
+ghost use Rattle.std.specs.Prelude.{◌≡◌, ◌+◌, ◌<◌, ◌≤◌, true, false, length, take, drop, slice_index, IfOk};
+ghost use Rattle.scripts.specs.Parts.{keyword_or, number_or};
+ghost use Rattle.scripts.specs.Readings.{Reads};
 ghost use Rattle.scripts.specs.Tokens.{blank, letter, all_letters, tokens, first, rest, left};
+
+use crate::expected::Expected;
+use crate::keywords::Keyword;
+use crate::numbers::decimal;
 
 fn is_blank(byte: u8) -> bool
     ensures { result ≡ blank byte }
@@ -54,5 +60,20 @@ impl<'a> Tokens<'a> {
         let len = letters(line);
         self.line = &line[len..];
         &line[0..len]
+    }
+
+    // The meaning of the next word, or what should have stood there.
+    pub(crate) fn keyword<K: Keyword>(&mut self, expected: Expected) -> Result<K, Expected>
+        ensures { Reads (keyword_or K.names expected) (left self.old) result (left self.new) }
+    {
+        K::named(self.next()).ok_or(expected)
+    }
+
+    // The number that the next word is, of at most `top`, or what should have stood there.
+    pub(crate) fn number(&mut self, top: usize, expected: Expected) -> Result<usize, Expected>
+        ensures value { Reads (number_or top expected) (left self.old) result (left self.new) }
+        ensures bound { IfOk result (λ n. n ≤ top) }
+    {
+        decimal(self.next(), top).ok_or(expected)
     }
 }

@@ -7,9 +7,8 @@ ghost use Rattle.scripts.specs.Tokens.{tokens as tokens_of, left};
 
 use crate::command::Command;
 use crate::expected::Expected;
-use crate::keywords::{Kind, Shape, Verb, verb_of};
+use crate::keywords::{Kind, Shape, Keyword, Verb};
 use crate::numbers::hexadecimal;
-use crate::parts;
 use crate::store::{MailboxShape, Store};
 use crate::tokens::Tokens;
 
@@ -18,8 +17,8 @@ fn store(shape: Shape, tokens: &mut Tokens) -> Result<Store, Expected>
     ensures { Reads (store_by shape) (left tokens.old) result (left tokens.new) }
 {
     match shape {
-        Shape::Words => Ok(Store::Words(parts::size(tokens)?)),
-        Shape::Pages => Ok(Store::Pages(parts::size(tokens)?)),
+        Shape::Words => Ok(Store::Words(tokens.number(1_000_000, Expected::Size)?)),
+        Shape::Pages => Ok(Store::Pages(tokens.number(1_000_000, Expected::Size)?)),
         Shape::Image => Ok(Store::Image),
         Shape::Overflow => Err(Expected::Store),
     }
@@ -29,14 +28,14 @@ fn store(shape: Shape, tokens: &mut Tokens) -> Result<Store, Expected>
 fn part(tokens: &mut Tokens) -> Result<Store, Expected>
     ensures { Reads part_of (left tokens.old) result (left tokens.new) }
 {
-    let shape = parts::store_word(tokens)?;
+    let shape = tokens.keyword(Expected::Store)?;
     store(shape, tokens)
 }
 
 fn mailbox(tokens: &mut Tokens) -> Result<Command, Expected>
     ensures { Reads mailbox_of (left tokens.old) result (left tokens.new) }
 {
-    match parts::mailbox_word(tokens)? {
+    match tokens.keyword(Expected::Mailbox)? {
         Shape::Overflow => {
             let first = part(tokens)?;
             let second = part(tokens)?;
@@ -52,9 +51,9 @@ fn mailbox(tokens: &mut Tokens) -> Result<Command, Expected>
 fn report(tokens: &mut Tokens) -> Result<Command, Expected>
     ensures { Reads report_of (left tokens.old) result (left tokens.new) }
 {
-    let station = parts::station(tokens)?;
-    let what = parts::report_word(tokens)?;
-    let value = parts::value(tokens)?;
+    let station = tokens.number(usize::MAX, Expected::Station)?;
+    let what = tokens.keyword(Expected::What)?;
+    let value = tokens.number(u32::MAX as usize, Expected::Value)? as u32;
     Ok(Command::Report {
         station,
         what,
@@ -65,8 +64,8 @@ fn report(tokens: &mut Tokens) -> Result<Command, Expected>
 fn send(tokens: &mut Tokens) -> Result<Command, Expected>
     ensures { Reads send_of (left tokens.old) result (left tokens.new) }
 {
-    let kind = parts::send_word(tokens)?;
-    let station = parts::station(tokens)?;
+    let kind = tokens.keyword(Expected::Send)?;
+    let station = tokens.number(usize::MAX, Expected::Station)?;
     match kind {
         Kind::Delta => Ok(Command::SendDelta { station }),
         Kind::Full => Ok(Command::SendFull { station }),
@@ -98,16 +97,16 @@ fn put(tokens: &mut Tokens, words: &mut [u32; 255]) -> Result<Command, Expected>
 fn fetch(tokens: &mut Tokens) -> Result<Command, Expected>
     ensures { Reads fetch_of (left tokens.old) result (left tokens.new) }
 {
-    let station = parts::station(tokens)?;
-    let message = parts::message(tokens)?;
+    let station = tokens.number(usize::MAX, Expected::Station)?;
+    let message = tokens.number(usize::MAX, Expected::Message)?;
     Ok(Command::Fetch { station, message })
 }
 
 fn compare(tokens: &mut Tokens) -> Result<Command, Expected>
     ensures { Reads compare_of (left tokens.old) result (left tokens.new) }
 {
-    let left = parts::station(tokens)?;
-    let right = parts::station(tokens)?;
+    let left = tokens.number(usize::MAX, Expected::Station)?;
+    let right = tokens.number(usize::MAX, Expected::Station)?;
     Ok(Command::Compare { left, right })
 }
 
@@ -117,25 +116,25 @@ fn asked(verb: Verb, tokens: &mut Tokens, words: &mut [u32; 255]) -> Result<Comm
     ensures words { words.new ≡ leaves verb (left tokens.old) words.old }
 {
     match verb {
-        Verb::Record => Ok(Command::Record(parts::record_word(tokens)?)),
-        Verb::Stations => Ok(Command::Stations(parts::stations(tokens)?)),
+        Verb::Record => Ok(Command::Record(tokens.keyword(Expected::RecordKind)?)),
+        Verb::Stations => Ok(Command::Stations(tokens.number(100, Expected::Stations)?)),
         Verb::Mailbox => mailbox(tokens),
         Verb::Report => report(tokens),
         Verb::Send => send(tokens),
         Verb::Put => put(tokens, words),
         Verb::Fetch => fetch(tokens),
         Verb::Discard => Ok(Command::Discard {
-            message: parts::message(tokens)?,
+            message: tokens.number(usize::MAX, Expected::Message)?,
         }),
         Verb::Count => Ok(Command::Count),
         Verb::Fits => Ok(Command::Fits {
-            len: parts::length(tokens)?,
+            len: tokens.number(usize::MAX, Expected::Length)?,
         }),
         Verb::Read => Ok(Command::Read {
-            message: parts::message(tokens)?,
+            message: tokens.number(usize::MAX, Expected::Message)?,
         }),
         Verb::Show => Ok(Command::Show {
-            station: parts::station(tokens)?,
+            station: tokens.number(usize::MAX, Expected::Station)?,
         }),
         Verb::Compare => compare(tokens),
         Verb::Image => Ok(Command::Image),
@@ -156,7 +155,7 @@ pub fn understand(line: &[u8], words: &mut [u32; 255]) -> Result<Option<Command>
     if first.is_empty() {
         return Ok(None);
     }
-    let Some(verb) = verb_of(first) else {
+    let Some(verb) = Verb::named(first) else {
         return Err(Expected::Command);
     };
     let command = asked(verb, &mut tokens, words)?;

@@ -1,7 +1,7 @@
 use Rattle.std.proofs.Common.{rules}
 use Rattle.scripts.specs.Keywords.{verbs}
 use Rattle.scripts.proofs.Names.{unnamed}
-use Rattle.scripts.proofs.keywords.verb_of.Goals as goal
+use Rattle.scripts.proofs.keywords.VerbKeyword.named.Goals as goal
 
 pub returns-in_default-4 : goal.returns-in_default-4
 returns-in_default-4 c = unnamed verbs c.args.token.now (search rules)
