@@ -30,7 +30,7 @@ InRange (command.Mailbox m) = Sizes m
 InRange (command.Report s w n) = (s < 2 ^ 64) × (n < 2 ^ 32)
 InRange (command.SendDelta s) = s < 2 ^ 64
 InRange (command.SendFull s) = s < 2 ^ 64
-InRange (command.Put n) = n ≤ 255
+InRange command.Put = Unit {0}
 InRange (command.Fetch s m) = (s < 2 ^ 64) × (m < 2 ^ 64)
 InRange (command.Discard m) = m < 2 ^ 64
 InRange command.Count = Unit {0}
@@ -46,4 +46,4 @@ Ranged (Ok (Some c)) = InRange c
 Ranged (Err e) = Unit {0}
 
 abbrev pub PrintedBack : Type 0
-PrintedBack = (c : Command) → InRange c → ((n : ℕ) → c ≢ command.Put n) → understood (tokens (shown c)) ≡ Ok (Some c)
+PrintedBack = (c : Command) → InRange c → c ≢ command.Put → understood (tokens (shown c)) ≡ Ok (Some c)

@@ -4,8 +4,6 @@
 --     uncommented line  the bytes before the first #
 --     pieces bs         what stands before, between and after the blanks; some of it may be empty
 --     tokens line       the words of a line: the pieces of what is no comment, without the empty ones
---     first ts          the first word, or one of no letters where none is left
---     rest ts           the words after the first
 --     left t            the words of what is left of a line
 use Rattle.std.specs.Prelude.{ℕ, Bool, true, cond, not, ◌&&◌, ◌||◌, List, [], ◌∷◌, ◌==◌}
 use Rattle.scripts.specs.declared.tokens.Tokens.{Tokens}
@@ -40,14 +38,6 @@ not_empty ((c ∷ cs) ∷ ps) = (c ∷ cs) ∷ not_empty ps
 
 unfoldable pub tokens : List ℕ → List (List ℕ)
 tokens line = not_empty (pieces (uncommented line))
-
-abbrev pub first : List (List ℕ) → List ℕ
-first [] = []
-first (t ∷ ts) = t
-
-abbrev pub rest : List (List ℕ) → List (List ℕ)
-rest [] = []
-rest (t ∷ ts) = ts
 
 abbrev pub left : Tokens → List (List ℕ)
 left t = tokens t.line.now

@@ -1,8 +1,9 @@
 // The words of a line. A comment, from `#` on, has none.
-ghost use Rattle.std.specs.Prelude.{◌≡◌, ◌+◌, ◌<◌, ◌≤◌, true, false, length, take, drop, slice_index, IfOk};
+ghost use Rattle.std.specs.Prelude.{◌≡◌, ◌+◌, ◌<◌, ◌≤◌, true, false, length, take, drop, slice_index, IfOk, ⊤};
+ghost use Rattle.std.specs.Iterator.{YieldsFirstRef, item_count};
 ghost use Rattle.scripts.specs.Parts.{keyword_or, number_or};
 ghost use Rattle.scripts.specs.Readings.{Reads};
-ghost use Rattle.scripts.specs.Tokens.{blank, letter, all_letters, tokens, first, rest, left};
+ghost use Rattle.scripts.specs.Tokens.{blank, letter, all_letters, tokens, left};
 
 use crate::expected::Expected;
 use crate::keywords::Keyword;
@@ -48,25 +49,31 @@ pub struct Tokens<'a> {
     pub line: &'a [u8],
 }
 
-impl<'a> Tokens<'a> {
-    // Goes past the next word, and answers it; at the end it is empty.
-    pub(crate) fn next(&mut self) -> &'a [u8]
-        ensures value { result.now ≡ first (left self.old) }
-        ensures after { left self.new ≡ rest (left self.old) }
-        ensures bound { length result.now + length self.new.line.now ≤ length self.old.line.now }
-    {
+// Each call goes past the next word, and answers it.
+impl<'a> Iterator for Tokens<'a> {
+    type Item = &'a [u8];
+
+    ghost can_next = { λ _. ⊤ };
+
+    ghost next_gives = { YieldsFirstRef left };
+
+    ghost remaining = { item_count left };
+
+    fn next(&mut self) -> Option<&'a [u8]> {
         let start = blanks(self.line);
         let line = &self.line[start..];
         let len = letters(line);
         self.line = &line[len..];
-        &line[0..len]
+        (len > 0).then_some(&line[0..len])
     }
+}
 
+impl<'a> Tokens<'a> {
     // The meaning of the next word, or what should have stood there.
     pub(crate) fn keyword<K: Keyword>(&mut self, expected: Expected) -> Result<K, Expected>
         ensures { Reads (keyword_or K.names expected) (left self.old) result (left self.new) }
     {
-        K::named(self.next()).ok_or(expected)
+        self.next().and_then(|token| K::named(token)).ok_or(expected)
     }
 
     // The number that the next word is, of at most `top`, or what should have stood there.
@@ -74,6 +81,6 @@ impl<'a> Tokens<'a> {
         ensures value { Reads (number_or top expected) (left self.old) result (left self.new) }
         ensures bound { IfOk result (λ n. n ≤ top) }
     {
-        decimal(self.next(), top).ok_or(expected)
+        self.next().and_then(|token| decimal(token, top)).ok_or(expected)
     }
 }

@@ -11,6 +11,7 @@ use crate::keywords::{Kind, Shape, Keyword, Verb};
 use crate::numbers::hexadecimal;
 use crate::store::{MailboxShape, Store};
 use crate::tokens::Tokens;
+use arrayvec::ArrayVec;
 
 // A store after its first word.
 fn store(shape: Shape, tokens: &mut Tokens) -> Result<Store, Expected>
@@ -73,25 +74,16 @@ fn send(tokens: &mut Tokens) -> Result<Command, Expected>
 }
 
 // Every word that is left goes to the given words. Where one is refused, those before it are there.
-fn put(tokens: &mut Tokens, words: &mut [u32; 255]) -> Result<Command, Expected>
+fn put(tokens: &mut Tokens, words: &mut ArrayVec<u32, 255>) -> Result<Command, Expected>
     ensures answer { Reads put_of (left tokens.old) result (left tokens.new) }
-    ensures words { words.new ≡ words_put (left tokens.old) words.old }
+    ensures words { words.new.items ≡ words_put (left tokens.old) }
 {
-    let mut len = 0;
-    loop {
-        let token = tokens.next();
-        if token.is_empty() {
-            return Ok(Command::Put { len });
-        }
-        let Some(word) = hexadecimal(token) else {
-            return Err(Expected::Words);
-        };
-        if len == words.len() {
-            return Err(Expected::Words);
-        }
-        words[len] = word;
-        len += 1;
+    words.clear();
+    while let Some(token) = tokens.next() {
+        let word = hexadecimal(token).ok_or(Expected::Words)?;
+        words.try_push(word).map_err(|_| Expected::Words)?;
     }
+    Ok(Command::Put)
 }
 
 fn fetch(tokens: &mut Tokens) -> Result<Command, Expected>
@@ -111,9 +103,9 @@ fn compare(tokens: &mut Tokens) -> Result<Command, Expected>
 }
 
 // What a verb and the words after it ask for.
-fn asked(verb: Verb, tokens: &mut Tokens, words: &mut [u32; 255]) -> Result<Command, Expected>
+fn asked(verb: Verb, tokens: &mut Tokens, words: &mut ArrayVec<u32, 255>) -> Result<Command, Expected>
     ensures answer { Reads (asked verb) (left tokens.old) result (left tokens.new) }
-    ensures words { words.new ≡ leaves verb (left tokens.old) words.old }
+    ensures words { words.new.items ≡ leaves verb (left tokens.old) words.old.items }
 {
     match verb {
         Verb::Record => Ok(Command::Record(tokens.keyword(Expected::RecordKind)?)),
@@ -141,27 +133,23 @@ fn asked(verb: Verb, tokens: &mut Tokens, words: &mut [u32; 255]) -> Result<Comm
     }
 }
 
-// Understands one line: None where it asks for nothing. The words of a put go to the front of `words`; where one of them is
-// refused, those before it are there. What is printed of a command is understood as that command, but for a put, which is
-// printed without its words.
-pub fn understand(line: &[u8], words: &mut [u32; 255]) -> Result<Option<Command>, Expected>
+// Understands one line: None where it asks for nothing. After a put `words` holds the words that are put, and no others; where one
+// of them is refused, those before it. What is printed of a command is understood as that command, but for a put, which is printed
+// without its words.
+pub fn understand(line: &[u8], words: &mut ArrayVec<u32, 255>) -> Result<Option<Command>, Expected>
     ensures answer { result ≡ understood (tokens_of line.now) }
-    ensures words { words.new ≡ words_after (tokens_of line.now) words.old }
+    ensures words { words.new.items ≡ words_after (tokens_of line.now) words.old.items }
     ensures range { Ranged result }
     ensures law { PrintedBack }
 {
     let mut tokens = Tokens { line };
-    let first = tokens.next();
-    if first.is_empty() {
+    let Some(first) = tokens.next() else {
         return Ok(None);
-    }
-    let Some(verb) = Verb::named(first) else {
-        return Err(Expected::Command);
     };
+    let verb = Verb::named(first).ok_or(Expected::Command)?;
     let command = asked(verb, &mut tokens, words)?;
-    if tokens.next().is_empty() {
-        Ok(Some(command))
-    } else {
-        Err(Expected::End)
+    match tokens.next() {
+        None => Ok(Some(command)),
+        Some(_) => Err(Expected::End),
     }
 }
