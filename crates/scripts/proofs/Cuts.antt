@@ -16,8 +16,16 @@ pub past_blank : (c : ℕ) (cs : List ℕ) → blank c ≡ true → tokens (c �
 unfolding tokens
 past_blank c cs e = rw (no_comment c e, e)
 
-pub blank_more : (line : List ℕ) (i : ℕ) → i < length line → blank (get_or line i 0) ≡ true → tokens (drop i line) ≡ tokens (drop (i + 1) line)
-blank_more line i h e = at_drop_more tokens line i 0 h ∙ past_blank (get_or line i 0) (drop (i + 1) line) e
+-- blanks at the front go
+blanks_gone : (line : List ℕ) (n : ℕ) → n ≤ length line → ((k : ℕ) → k < n → blank (get_or line k 0) ≡ true) → tokens (drop n line) ≡ tokens line
+blanks_gone line zero low all = refl
+blanks_gone [] (suc n) low all = refl
+blanks_gone (c ∷ cs) (suc n) low all = blanks_gone cs n (omega arith) (λ k h. all (suc k) (omega arith)) ∙ sym (past_blank c cs (all 0 (omega arith)))
+
+letters_taken : (line : List ℕ) (n : ℕ) → n ≤ length line → ((k : ℕ) → k < n → letter (get_or line k 0) ≡ true) → all_letters (take n line) ≡ true
+letters_taken line zero low all = refl
+letters_taken [] (suc n) low all = refl
+letters_taken (c ∷ cs) (suc n) low all = rw (all 0 (omega arith)) (letters_taken cs n (omega arith) (λ k h. all (suc k) (omega arith)))
 
 letter_parts : (c : ℕ) → letter c ≡ true → (blank c ≡ false) × (eqb c 35 ≡ false)
 letter_parts c e = or_parts (blank c) (eqb c 35) (not-true (blank c || eqb c 35) e)
@@ -27,9 +35,6 @@ letters_push [] c all e = rw e
 letters_push (d ∷ w) c all e =
     let p = and_parts (letter d) (all_letters w) all in
     rw (p.0, letters_push w c p.1 e)
-
-pub letters_more : (line : List ℕ) (i : ℕ) → i < length line → all_letters (take i line) ≡ true → letter (get_or line i 0) ≡ true → all_letters (take (i + 1) line) ≡ true
-letters_more line i h all e = rw (take_more line i 0 h) (letters_push (take i line) (get_or line i 0) all e)
 
 -- bytes in front of the first piece
 abbrev onto_all : List ℕ → List (List ℕ) → List (List ℕ)
@@ -107,9 +112,6 @@ cut_word [] (suc n) some low all ends = absurd (omega arith)
 cut_word (c ∷ cs) (suc n) some low all ends =
     ap (λ l. tokens (c ∷ l)) (sym (take-append-drop n cs)) ∙ tokens_word (c ∷ take n cs) (drop n cs) all (stops_drop cs n (λ k. ends (omega arith)))
 
-pub plain_letter : (c : ℕ) → blank c ≡ false → (c ≡ 35 → ⊥) → letter c ≡ true
-plain_letter c b e = rw (b, ne_eqb c 35 e)
-
 -- the same of a line with blanks in front, as slices are cut
 module _ (line : List ℕ) (a : ℕ) where
   abbrev pub onward : List ℕ
@@ -121,12 +123,12 @@ module _ (line : List ℕ) (a : ℕ) where
       let low : a < length line = omega (arith, length-drop a line) in
       rw (take_rest line a, at_drop_more (λ l. blank (get_or l 0 0)) line a 0 low) (plain low)
 
-  module _ (n : ℕ) (same : tokens (drop a line) ≡ tokens line) (low : n ≤ length onward) (ends : n < length onward → letter (get_or onward n 0) ≡ false) where
+  module _ (n : ℕ) (blanks : (k : ℕ) → k < a → blank (get_or line k 0) ≡ true) (some : a ≤ length line) (low : n ≤ length onward) (ends : n < length onward → letter (get_or onward n 0) ≡ false) where
     abbrev pub after : List ℕ
     after = take (length onward - n) (drop n onward)
 
     all_same : tokens onward ≡ tokens line
-    all_same = ap tokens (take_rest line a) ∙ same
+    all_same = ap tokens (take_rest line a) ∙ blanks_gone line a some blanks
 
     pub next_none : n ≤ 0 → (a < length line → blank (get_or line a 0) ≡ false) → (tokens line ≡ []) × (tokens after ≡ [])
     next_none z plain =
@@ -134,8 +136,8 @@ module _ (line : List ℕ) (a : ℕ) where
         let e : tokens onward ≡ [] = cut_none onward (plain_onward plain) (rw none at ends) in
         (sym all_same ∙ e, ap tokens (take_rest onward n) ∙ rw none e)
 
-    pub next_word : 0 < n → all_letters (take n onward) ≡ true → tokens line ≡ take (n - 0) onward ∷ tokens after
-    next_word some all = rw (sub-zero n, take_rest onward n) (sym all_same ∙ cut_word onward n some low all ends)
+    pub next_word : 0 < n → ((k : ℕ) → k < n → letter (get_or onward k 0) ≡ true) → tokens line ≡ take (n - 0) onward ∷ tokens after
+    next_word first all = rw (sub-zero n, take_rest onward n) (sym all_same ∙ cut_word onward n first low (letters_taken onward n low all) ends)
 
 -- a call of an iterator that has a list left
 pub yields : (ts us : List (List ℕ)) (b : Bool) (x : Bor (List ℕ)) → (b ≡ true → ts ≡ x.now ∷ us) → (b ≡ false → (ts ≡ []) × (us ≡ []))

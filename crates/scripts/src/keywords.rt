@@ -52,6 +52,7 @@ pub(crate) trait Keyword: Drop {
 impl Keyword for Verb {
     ghost names = { verbs };
 
+    #[tactic(auto, using(crate::proofs::Names::unnamed))]
     fn named(token: &[u8]) -> Option<Verb> {
         match token {
             b"record" => Some(Verb::Record),
@@ -114,6 +115,7 @@ impl Keyword for Kind {
 impl Keyword for What {
     ghost names = { whats };
 
+    #[tactic(auto, using(crate::proofs::Names::unnamed))]
     fn named(token: &[u8]) -> Option<What> {
         match token {
             b"erased" => Some(What::Erased),

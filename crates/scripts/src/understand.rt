@@ -7,7 +7,7 @@ ghost use Rattle.scripts.specs.Tokens.{tokens as tokens_of, left};
 
 use crate::command::Command;
 use crate::expected::Expected;
-use crate::keywords::{Kind, Shape, Keyword, Verb};
+use crate::keywords::{Keyword, Kind, Shape, Verb};
 use crate::numbers::hexadecimal;
 use crate::store::{MailboxShape, Store};
 use crate::tokens::Tokens;
@@ -103,7 +103,11 @@ fn compare(tokens: &mut Tokens) -> Result<Command, Expected>
 }
 
 // What a verb and the words after it ask for.
-fn asked(verb: Verb, tokens: &mut Tokens, words: &mut ArrayVec<u32, 255>) -> Result<Command, Expected>
+fn asked(
+    verb: Verb,
+    tokens: &mut Tokens,
+    words: &mut ArrayVec<u32, 255>,
+) -> Result<Command, Expected>
     ensures answer { Reads (asked verb) (left tokens.old) result (left tokens.new) }
     ensures words { words.new.items ≡ leaves verb (left tokens.old) words.old.items }
 {
@@ -136,6 +140,7 @@ fn asked(verb: Verb, tokens: &mut Tokens, words: &mut ArrayVec<u32, 255>) -> Res
 // Understands one line: None where it asks for nothing. After a put `words` holds the words that are put, and no others; where one
 // of them is refused, those before it. What is printed of a command is understood as that command, but for a put, which is printed
 // without its words.
+#[tactic(auto, using(crate::proofs::Back::printed_back))]
 pub fn understand(line: &[u8], words: &mut ArrayVec<u32, 255>) -> Result<Option<Command>, Expected>
     ensures answer { result ≡ understood (tokens_of line.now) }
     ensures words { words.new.items ≡ words_after (tokens_of line.now) words.old.items }

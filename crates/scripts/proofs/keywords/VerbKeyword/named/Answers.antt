@@ -3,20 +3,8 @@ use Rattle.scripts.specs.Keywords.{verbs}
 use Rattle.scripts.proofs.Names.{unnamed}
 use Rattle.scripts.proofs.keywords.VerbKeyword.named.Goals as goal
 
-pub returns-in_default-4 : goal.returns-in_default-4
-returns-in_default-4 c = unnamed verbs c.args.token.now (search rules)
-
-pub returns-in_default-16 : goal.returns-in_default-16
-returns-in_default-16 c = unnamed verbs c.args.token.now (search rules)
-
-pub returns-in_default-29 : goal.returns-in_default-29
-returns-in_default-29 c = unnamed verbs c.args.token.now (search rules)
-
 pub returns-in_default-38 : goal.returns-in_default-38
 returns-in_default-38 c = unnamed verbs c.args.token.now (search rules)
-
-pub returns-in_default-57 : goal.returns-in_default-57
-returns-in_default-57 c = unnamed verbs c.args.token.now (search rules)
 
 pub returns-in_default-65 : goal.returns-in_default-65
 returns-in_default-65 c = unnamed verbs c.args.token.now (search rules)
