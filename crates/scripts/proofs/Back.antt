@@ -15,7 +15,8 @@ use Rattle.scripts.specs.Keywords.{named, whats}
 use Rattle.scripts.specs.Laws.{Size, Sizes, PrintedBack}
 use Rattle.scripts.specs.Numbers.{decimal_of}
 use Rattle.scripts.specs.Shown.{store_shown, what_shown, shown}
-use Rattle.scripts.specs.Tokens.{all_letters, tokens}
+use Rattle.scripts.specs.Tokens.{tokens}
+use Rattle.scripts.proofs.Cuts.{all_letters}
 use Rattle.scripts.proofs.Prints.{decimal_back, word_on, word_last, number_on, number_last}
 
 -- a station, a message or a length

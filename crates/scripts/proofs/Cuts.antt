@@ -1,13 +1,17 @@
 -- What blanks and words at the front of a line come to.
-use Rattle.std.proofs.Common.{◌≡◌, ℕ, zero, suc, ◌+◌, ◌-◌, ◌<◌, ◌≤◌, Bool, true, false, ◌||◌, eqb, List, [], ◌∷◌, ◌++◌, length, get_or, take, drop, sym, refl, ap, ◌∙◌, ⊎_elim, arith, length-drop, take-append-drop, Some, None, Option, Bor}
+use Rattle.std.proofs.Common.{◌≡◌, ℕ, zero, suc, ◌-◌, ◌<◌, ◌≤◌, Bool, true, false, ◌&&◌, ◌||◌, eqb, List, [], ◌∷◌, ◌++◌, length, get_or, take, drop, sym, refl, ap, ◌∙◌, ⊎_elim, arith, length-drop, take-append-drop, Some, None, Option, Bor}
 use Rattle.std.specs.Bool.{then_some}
 use Rattle.std.specs.Option.{MatchOption}
 use Rattle.std.specs.Iterator.{YieldsFirstRef, MakesProgress, item_count}
 use native.Mathlib.Nat.{sub-zero}
-use Rattle.std.proofs.lemmas.List.{at_drop_more, take_more, take_rest}
-use Rattle.std.proofs.lemmas.Bool.{or_parts, or_cases, and_parts, not-true, not-false, eqb-true, eqb-false, ne_eqb}
+use Rattle.std.proofs.lemmas.List.{at_drop_more, take_rest}
+use Rattle.std.proofs.lemmas.Bool.{or_parts, or_cases, and_parts, not-true, not-false}
 use Rattle.std.proofs.lemmas.Bool.Decides.{nat_tests}
-use Rattle.scripts.specs.Tokens.{blank, letter, all_letters, uncommented, onto, pieces, not_empty, tokens}
+use Rattle.scripts.specs.Tokens.{blank, letter, uncommented, onto, pieces, not_empty, tokens}
+
+abbrev pub all_letters : List ℕ → Bool
+all_letters [] = true
+all_letters (c ∷ cs) = letter c && all_letters cs
 
 no_comment : (c : ℕ) → blank c ≡ true → eqb c 35 ≡ false
 no_comment c e = grind (arith, nat_tests)

@@ -1,38 +1,21 @@
 -- The words of a put, one after another.
-use Rattle.std.proofs.Common.{◌≡◌, ℕ, suc, ◌+◌, ◌<◌, ◌≤◌, false, cond, ◌&&◌, leb, List, [], ◌∷◌, ◌++◌, length, take, Some, None, Ok, Err, Result, Option, refl, ◌∙◌, ap, add-zero, zero-add, append-nil, arith}
+use Rattle.std.proofs.Common.{◌≡◌, ℕ, ◌+◌, ◌≤◌, cond, ◌&&◌, leb, List, [], ◌∷◌, ◌++◌, length, take, Some, None, Ok, Err, Result, Option, refl, ◌∙◌, ap, add-zero, append-nil, arith}
 use Rattle.std.specs.Option.{ok_or}
-use Rattle.std.proofs.lemmas.List.{append_assoc, take_all, take-append-le}
-use Rattle.std.proofs.lemmas.Bool.{le-leb, lt-leb, and_right}
+use Rattle.std.proofs.lemmas.List.{take_all, take-append-le}
+use Rattle.std.proofs.lemmas.Bool.{le-leb}
 use Rattle.scripts.specs.declared.command.Command.{Command}
 use Rattle.scripts.specs.declared.command.Command.TheVariants as command
 use Rattle.scripts.specs.declared.expected.Expected.{Expected}
 use Rattle.scripts.specs.declared.expected.Expected.TheVariants as expected
-use Rattle.scripts.specs.Grammar.{all_words, put_of, written}
+use Rattle.scripts.specs.Grammar.{all_words, written}
 use Rattle.scripts.specs.Numbers.{hexadecimal_of}
 
 -- what a put comes to where len words are taken
 abbrev pub put_on : ℕ → List (List ℕ) → Result (Command × List (List ℕ)) Expected
 put_on len ts = cond (all_words ts && leb (len + length ts) 255) (Ok (command.Put, [])) (Err expected.Words)
 
-pub put_start : (ts : List (List ℕ)) → put_on 0 ts ≡ put_of ts
-put_start ts = rw (zero-add (length ts))
-
 pub put_end : (len : ℕ) → len ≤ 255 → put_on len [] ≡ Ok (command.Put, [])
 put_end len h = rw (add-zero len, le-leb len 255 h)
-
-module _ (len : ℕ) (t : List ℕ) (ts : List (List ℕ)) where
-  pub put_more : (w : ℕ) → hexadecimal_of t ≡ Some w → put_on len (t ∷ ts) ≡ put_on (len + 1) ts
-  put_more w e =
-      let a : len + suc (length ts) ≡ len + 1 + length ts = omega arith in
-      rw (e, a)
-
-  pub put_wrong : hexadecimal_of t ≡ None → put_on len (t ∷ ts) ≡ Err expected.Words
-  put_wrong e = rw e
-
-  pub put_full : 255 ≤ len → put_on len (t ∷ ts) ≡ Err expected.Words
-  put_full h =
-      let past : leb (len + suc (length ts)) 255 ≡ false = lt-leb (len + suc (length ts)) 255 (omega arith) in
-      rw (and_right (all_words (t ∷ ts)) (leb (len + suc (length ts)) 255) past)
 
 -- a word that is not there is refused
 pub refused : (o : Option ℕ) (e f : Expected) → ok_or o e ≡ Err f → o ≡ None
@@ -40,9 +23,6 @@ refused None e f h = refl
 refused (Some w) e f h = let z : ◌≡◌ {A = ℕ} 0 1 = cc in absurd (omega arith)
 
 module _ (ws : List ℕ) where
-  pub words_more : (t : List ℕ) (ts : List (List ℕ)) (w : ℕ) → hexadecimal_of t ≡ Some w → take 255 ((ws ++ w ∷ []) ++ written ts) ≡ take 255 (ws ++ written (t ∷ ts))
-  words_more t ts w e = rw e (ap (take 255) (append_assoc ws (w ∷ []) (written ts)))
-
   pub words_end : length ws ≤ 255 → take 255 (ws ++ written []) ≡ ws
   words_end h = ap (take 255) (append-nil ws) ∙ take_all 255 ws h
 

@@ -2,7 +2,7 @@
 --     InRange c         the numbers of a command are those that a line can hold
 --     Ranged r          an answer's command, if it has one, is in range
 --     PrintedBack       what is printed of such a command is understood as it; but for a put, which is printed without its words
-use Rattle.std.specs.Prelude.{◌≡◌, ℕ, ◌^◌, ◌<◌, ◌≤◌, Some, None, Ok, Err, Option, Result, ◌≢◌}
+use Rattle.std.specs.Prelude.{◌≡◌, ◌^◌, ◌<◌, ◌≤◌, Some, None, Ok, Err, Option, Result, ◌≢◌}
 use Rattle.scripts.specs.declared.command.Command.{Command}
 use Rattle.scripts.specs.declared.command.Command.TheVariants as command
 use Rattle.scripts.specs.declared.expected.Expected.{Expected}

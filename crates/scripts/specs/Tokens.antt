@@ -5,7 +5,7 @@
 --     pieces bs         what stands before, between and after the blanks; some of it may be empty
 --     tokens line       the words of a line: the pieces of what is no comment, without the empty ones
 --     left t            the words of what is left of a line
-use Rattle.std.specs.Prelude.{ℕ, Bool, true, cond, not, ◌&&◌, ◌||◌, List, [], ◌∷◌, ◌==◌}
+use Rattle.std.specs.Prelude.{ℕ, Bool, cond, not, ◌||◌, List, [], ◌∷◌, ◌==◌}
 use Rattle.scripts.specs.declared.tokens.Tokens.{Tokens}
 
 abbrev pub blank : ℕ → Bool
@@ -13,10 +13,6 @@ blank c = c == 32 || (c == 9 || c == 13)
 
 abbrev pub letter : ℕ → Bool
 letter c = not (blank c || c == 35)
-
-abbrev pub all_letters : List ℕ → Bool
-all_letters [] = true
-all_letters (c ∷ cs) = letter c && all_letters cs
 
 abbrev pub uncommented : List ℕ → List ℕ
 uncommented [] = []

@@ -79,6 +79,7 @@ fn put(tokens: &mut Tokens, words: &mut ArrayVec<u32, 255>) -> Result<Command, E
     ensures words { words.new.items ≡ words_put (left tokens.old) }
 {
     words.clear();
+    // `while let`: after `for token in tokens` nothing is known of what `tokens` has left
     while let Some(token) = tokens.next() {
         let word = hexadecimal(token).ok_or(Expected::Words)?;
         words.try_push(word).map_err(|_| Expected::Words)?;

@@ -1,4 +1,4 @@
-use Rattle.std.proofs.Common.{rules, ◌≡◌, ◌++◌, length, List, [], ◌∷◌, take, Ok, sym, ap, ◌∙◌, arith}
+use Rattle.std.proofs.Common.{rules, ◌≡◌, ◌++◌, length, take, Ok, sym, ap, ◌∙◌, arith}
 use Rattle.scripts.specs.declared.command.Command.TheVariants as command
 use Rattle.scripts.specs.Grammar.{written}
 use Rattle.scripts.specs.Tokens.{left}
