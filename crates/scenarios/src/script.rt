@@ -80,5 +80,5 @@ fn words_that_are_put(rt: HostRuntime) {
         understand(b"put 20000009 f 00abCDEF", &mut words),
         Ok(Some(Command::Put))
     );
-    assert_eq!(rt; words.as_slice(), [0x2000_0009, 15, 0x00AB_CDEF]);
+    assert_eq!(rt; words.as_slice(), [0x2000_0009, 15, 0x00AB_CDEF].as_slice());
 }
