@@ -84,7 +84,7 @@ fn obey<C: Recorded, M: Imaged, W: Write>(
     words: &mut [u32; 127],
 ) -> io::Result<()>
     ensures lines { Rehearsed C.Crdt (cluster_of C.Crdt M.Mailbox table.old mailbox.old) (cluster_of C.Crdt M.Mailbox table.new mailbox.new) }
-    ensures obeyed { Obeyed C.Crdt script.old.words (cluster_of C.Crdt M.Mailbox table.old mailbox.old) (cluster_of C.Crdt M.Mailbox table.new mailbox.new) command }
+    ensures obeyed { Obeyed C.Crdt script.old.words.items (cluster_of C.Crdt M.Mailbox table.old mailbox.old) (cluster_of C.Crdt M.Mailbox table.new mailbox.new) command }
 {
     match command {
         Command::Report {
@@ -98,10 +98,7 @@ fn obey<C: Recorded, M: Imaged, W: Write>(
             }
             None => script.misunderstood(out, C::reportable()),
         },
-        Command::Put { len } => {
-            let len = len.min(script.words.len());
-            put(out, mailbox, &script.words[0..len])
-        }
+        Command::Put => put(out, mailbox, script.words.as_slice()),
         Command::Show { station } => show(out, command, table, station),
         Command::Compare { left, right } => compare(out, command, table, left, right),
         Command::Image => mailbox.print_image(out),

@@ -2,6 +2,7 @@
 ghost use Rattle.std.specs.Prelude.{◌≤◌, length};
 
 use crate::failure::Failure;
+use arrayvec::ArrayVec;
 use scripts::command::Command;
 use scripts::store::{MailboxShape, Store};
 use scripts::understand::understand;
@@ -22,8 +23,8 @@ pub(crate) struct Script<'a> {
     image: bool,
     // How many lines were not understood.
     wrong: usize,
-    // The words of the put that was read last stand at the front.
-    pub(crate) words: [u32; 255],
+    // The words of the put that was read last.
+    pub(crate) words: ArrayVec<u32, 255>,
 }
 
 // The place of the first newline, or the end.
@@ -57,7 +58,7 @@ impl<'a> Script<'a> {
             line: 0,
             image,
             wrong: 0,
-            words: [0; 255],
+            words: ArrayVec::new(),
         }
     }
 

@@ -15,7 +15,8 @@ use Rattle.scripts.specs.Keywords.{named, whats}
 use Rattle.scripts.specs.Laws.{Size, Sizes, PrintedBack}
 use Rattle.scripts.specs.Numbers.{decimal_of}
 use Rattle.scripts.specs.Shown.{store_shown, what_shown, shown}
-use Rattle.scripts.specs.Tokens.{all_letters, tokens}
+use Rattle.scripts.specs.Tokens.{tokens}
+use Rattle.scripts.proofs.Cuts.{all_letters}
 use Rattle.scripts.proofs.Prints.{decimal_back, word_on, word_last, number_on, number_last}
 
 -- a station, a message or a length
@@ -132,7 +133,7 @@ printed_back (command.Mailbox m) h p = mailbox_back m h
 printed_back (command.Report s w n) h p = report_back s w n h.0 h.1
 printed_back (command.SendDelta s) h p = rw (send_back (codes "delta") s refl (lit< tt) h, any s h)
 printed_back (command.SendFull s) h p = rw (send_back (codes "full") s refl (lit< tt) h, any s h)
-printed_back (command.Put n) h p = absurd (p n refl)
+printed_back command.Put h p = absurd (p refl)
 printed_back (command.Fetch s m) h p = rw (two_numbers (codes "fetch") s m refl (lit< tt) h.0 h.1, any s h.0, any m h.1)
 printed_back (command.Discard m) h p = rw (one_number (codes "discard") m refl (lit< tt) h, any m h)
 printed_back command.Count h p = rw (word_last (codes "count") refl (lit< tt))

@@ -1,10 +1,17 @@
 -- What blanks and words at the front of a line come to.
-use Rattle.std.proofs.Common.{◌≡◌, ℕ, zero, suc, ◌+◌, ◌-◌, ◌<◌, true, false, ◌||◌, eqb, List, [], ◌∷◌, ◌++◌, length, get_or, take, drop, sym, refl, ap, ◌∙◌, ⊎_elim, arith, length-drop, take-append-drop}
+use Rattle.std.proofs.Common.{◌≡◌, ℕ, zero, suc, ◌-◌, ◌<◌, ◌≤◌, Bool, true, false, ◌&&◌, ◌||◌, eqb, List, [], ◌∷◌, ◌++◌, length, get_or, take, drop, sym, refl, ap, ◌∙◌, ⊎_elim, arith, length-drop, take-append-drop, Some, None, Option, Bor}
+use Rattle.std.specs.Bool.{then_some}
+use Rattle.std.specs.Option.{MatchOption}
+use Rattle.std.specs.Iterator.{YieldsFirstRef, MakesProgress, item_count}
 use native.Mathlib.Nat.{sub-zero}
-use Rattle.std.proofs.lemmas.List.{at_drop_more, take_more, take_rest}
-use Rattle.std.proofs.lemmas.Bool.{or_parts, or_cases, and_parts, not-true, not-false, eqb-true, eqb-false, ne_eqb}
+use Rattle.std.proofs.lemmas.List.{at_drop_more, take_rest}
+use Rattle.std.proofs.lemmas.Bool.{or_parts, or_cases, and_parts, not-true, not-false}
 use Rattle.std.proofs.lemmas.Bool.Decides.{nat_tests}
-use Rattle.scripts.specs.Tokens.{blank, letter, all_letters, uncommented, onto, pieces, not_empty, tokens, first, rest}
+use Rattle.scripts.specs.Tokens.{blank, letter, uncommented, onto, pieces, not_empty, tokens}
+
+abbrev pub all_letters : List ℕ → Bool
+all_letters [] = true
+all_letters (c ∷ cs) = letter c && all_letters cs
 
 no_comment : (c : ℕ) → blank c ≡ true → eqb c 35 ≡ false
 no_comment c e = grind (arith, nat_tests)
@@ -13,8 +20,16 @@ pub past_blank : (c : ℕ) (cs : List ℕ) → blank c ≡ true → tokens (c �
 unfolding tokens
 past_blank c cs e = rw (no_comment c e, e)
 
-pub blank_more : (line : List ℕ) (i : ℕ) → i < length line → blank (get_or line i 0) ≡ true → tokens (drop i line) ≡ tokens (drop (i + 1) line)
-blank_more line i h e = at_drop_more tokens line i 0 h ∙ past_blank (get_or line i 0) (drop (i + 1) line) e
+-- blanks at the front go
+blanks_gone : (line : List ℕ) (n : ℕ) → n ≤ length line → ((k : ℕ) → k < n → blank (get_or line k 0) ≡ true) → tokens (drop n line) ≡ tokens line
+blanks_gone line zero low all = refl
+blanks_gone [] (suc n) low all = refl
+blanks_gone (c ∷ cs) (suc n) low all = blanks_gone cs n (omega arith) (λ k h. all (suc k) (omega arith)) ∙ sym (past_blank c cs (all 0 (omega arith)))
+
+letters_taken : (line : List ℕ) (n : ℕ) → n ≤ length line → ((k : ℕ) → k < n → letter (get_or line k 0) ≡ true) → all_letters (take n line) ≡ true
+letters_taken line zero low all = refl
+letters_taken [] (suc n) low all = refl
+letters_taken (c ∷ cs) (suc n) low all = rw (all 0 (omega arith)) (letters_taken cs n (omega arith) (λ k h. all (suc k) (omega arith)))
 
 letter_parts : (c : ℕ) → letter c ≡ true → (blank c ≡ false) × (eqb c 35 ≡ false)
 letter_parts c e = or_parts (blank c) (eqb c 35) (not-true (blank c || eqb c 35) e)
@@ -24,9 +39,6 @@ letters_push [] c all e = rw e
 letters_push (d ∷ w) c all e =
     let p = and_parts (letter d) (all_letters w) all in
     rw (p.0, letters_push w c p.1 e)
-
-pub letters_more : (line : List ℕ) (i : ℕ) → i < length line → all_letters (take i line) ≡ true → letter (get_or line i 0) ≡ true → all_letters (take (i + 1) line) ≡ true
-letters_more line i h all e = rw (take_more line i 0 h) (letters_push (take i line) (get_or line i 0) all e)
 
 -- bytes in front of the first piece
 abbrev onto_all : List ℕ → List (List ℕ) → List (List ℕ)
@@ -88,42 +100,21 @@ stops_drop [] (suc n) h = tt
 stops_drop (c ∷ cs) zero h = h (omega arith)
 stops_drop (c ∷ cs) (suc n) h = stops_drop cs n (λ k. h (omega arith))
 
-cut_none : ([] ≡ first (tokens [])) × (tokens [] ≡ rest (tokens []))
+tokens_none : tokens [] ≡ []
 unfolding tokens
-cut_none = (refl, refl)
+tokens_none = refl
 
--- where no blank is in front, the word at the front is the first, and the others are those of what comes after it
-pub cut : (m : List ℕ) (n : ℕ) → (0 < length m → blank (get_or m 0 0) ≡ false) → all_letters (take n m) ≡ true → (n < length m → letter (get_or m n 0) ≡ false)
-    → (take n m ≡ first (tokens m)) × (tokens (drop n m) ≡ rest (tokens m))
-cut [] zero plain all ends = cut_none
-cut [] (suc n) plain all ends = cut_none
-cut (c ∷ cs) zero plain all ends =
-    let e : tokens (c ∷ cs) ≡ [] = comment_first c cs (plain (omega arith)) (ends (omega arith)) in
-    rw e (refl, refl)
-cut (c ∷ cs) (suc n) plain all ends =
-    let e : tokens (c ∷ cs) ≡ (c ∷ take n cs) ∷ tokens (drop n cs) =
-    ap (λ l. tokens (c ∷ l)) (sym (take-append-drop n cs)) ∙ tokens_word (c ∷ take n cs) (drop n cs) all (stops_drop cs n (λ k. ends (omega arith))) in
-    rw e (refl, refl)
+-- where neither a blank nor a letter is in front, there are no words
+cut_none : (m : List ℕ) → (0 < length m → blank (get_or m 0 0) ≡ false) → (0 < length m → letter (get_or m 0 0) ≡ false) → tokens m ≡ []
+cut_none [] plain ends = tokens_none
+cut_none (c ∷ cs) plain ends = comment_first c cs (plain (omega arith)) (ends (omega arith))
 
-first_none : (ps : List (List ℕ)) → length (first (not_empty ps)) ≡ 0 → not_empty ps ≡ []
-first_none [] e = refl
-first_none ([] ∷ ps) e = first_none ps e
-first_none ((c ∷ cs) ∷ ps) e = absurd (omega arith)
-
--- no word is empty, so an empty one says that none is left
-pub none_left : (line t : List ℕ) → t ≡ first (tokens line) → true ≡ eqb (length t) 0 → tokens line ≡ []
-unfolding tokens
-none_left line t te e = first_none (pieces (uncommented line)) (ap length (sym te) ∙ eqb-true (length t) 0 (sym e))
-
-some_first : (ts : List (List ℕ)) → (length (first ts) ≡ 0 → ⊥) → ts ≡ first ts ∷ rest ts
-some_first [] h = absurd (h refl)
-some_first (t ∷ ts) h = refl
-
-pub some_left : (ts : List (List ℕ)) (t : List ℕ) (ts' : List (List ℕ)) → t ≡ first ts → ts' ≡ rest ts → false ≡ eqb (length t) 0 → ts ≡ t ∷ ts'
-some_left ts t ts' te ue e = rw (te, ue) (some_first ts (λ z. eqb-false (length t) 0 (sym e) (ap length te ∙ z)))
-
-pub plain_letter : (c : ℕ) → blank c ≡ false → (c ≡ 35 → ⊥) → letter c ≡ true
-plain_letter c b e = rw (b, ne_eqb c 35 e)
+-- a word at the front is the first, and the others are those of what comes after it
+cut_word : (m : List ℕ) (n : ℕ) → 0 < n → n ≤ length m → all_letters (take n m) ≡ true → (n < length m → letter (get_or m n 0) ≡ false) → tokens m ≡ take n m ∷ tokens (drop n m)
+cut_word m zero some low all ends = absurd (omega arith)
+cut_word [] (suc n) some low all ends = absurd (omega arith)
+cut_word (c ∷ cs) (suc n) some low all ends =
+    ap (λ l. tokens (c ∷ l)) (sym (take-append-drop n cs)) ∙ tokens_word (c ∷ take n cs) (drop n cs) all (stops_drop cs n (λ k. ends (omega arith)))
 
 -- the same of a line with blanks in front, as slices are cut
 module _ (line : List ℕ) (a : ℕ) where
@@ -136,10 +127,28 @@ module _ (line : List ℕ) (a : ℕ) where
       let low : a < length line = omega (arith, length-drop a line) in
       rw (take_rest line a, at_drop_more (λ l. blank (get_or l 0 0)) line a 0 low) (plain low)
 
-  pub next_cut : (n : ℕ) → tokens (drop a line) ≡ tokens line → (a < length line → blank (get_or line a 0) ≡ false)
-      → all_letters (take n onward) ≡ true → (n < length onward → letter (get_or onward n 0) ≡ false)
-      → (take (n - 0) onward ≡ first (tokens line)) × (tokens (take (length onward - n) (drop n onward)) ≡ rest (tokens line))
-  next_cut n same plain all ends =
-      let p = cut onward n (plain_onward plain) all ends in
-      let e : tokens onward ≡ tokens line = ap tokens (take_rest line a) ∙ same in
-      (ap (λ k. take k onward) (sub-zero n) ∙ p.0 ∙ ap first e, ap tokens (take_rest onward n) ∙ p.1 ∙ ap rest e)
+  module _ (n : ℕ) (blanks : (k : ℕ) → k < a → blank (get_or line k 0) ≡ true) (some : a ≤ length line) (low : n ≤ length onward) (ends : n < length onward → letter (get_or onward n 0) ≡ false) where
+    abbrev pub after : List ℕ
+    after = take (length onward - n) (drop n onward)
+
+    all_same : tokens onward ≡ tokens line
+    all_same = ap tokens (take_rest line a) ∙ blanks_gone line a some blanks
+
+    pub next_none : n ≤ 0 → (a < length line → blank (get_or line a 0) ≡ false) → (tokens line ≡ []) × (tokens after ≡ [])
+    next_none z plain =
+        let none : n ≡ 0 = omega arith in
+        let e : tokens onward ≡ [] = cut_none onward (plain_onward plain) (rw none at ends) in
+        (sym all_same ∙ e, ap tokens (take_rest onward n) ∙ rw none e)
+
+    pub next_word : 0 < n → ((k : ℕ) → k < n → letter (get_or onward k 0) ≡ true) → tokens line ≡ take (n - 0) onward ∷ tokens after
+    next_word first all = rw (sub-zero n, take_rest onward n) (sym all_same ∙ cut_word onward n first low (letters_taken onward n low all) ends)
+
+-- a call of an iterator that has a list left
+pub yields : (ts us : List (List ℕ)) (b : Bool) (x : Bor (List ℕ)) → (b ≡ true → ts ≡ x.now ∷ us) → (b ≡ false → (ts ≡ []) × (us ≡ []))
+    → MatchOption (then_some b x) ((ts ≡ []) × (us ≡ [])) (λ y. ts ≡ y.now ∷ us)
+yields ts us true x some none = some refl
+yields ts us false x some none = none refl
+
+pub progresses : {S : Type 0} (can : S → Type 0) (rest : S → List (List ℕ)) (s t : S) (r : Option (Bor (List ℕ))) → can t → YieldsFirstRef rest s r t → MakesProgress can (item_count rest) s r t
+progresses can rest s t None c y = record { on = λ f. tt; keeps = tt; rests = λ f. tt }
+progresses can rest s t (Some x) c y = record { on = λ f. (c, tt, rw y (omega arith)); keeps = c; rests = λ f. tt }

@@ -3,7 +3,6 @@ pub mod Names
 pub mod Digits
 pub mod Cuts
 pub mod Puts
-pub mod Lines
 pub mod Prints
 pub mod Back
 pub mod Ranges

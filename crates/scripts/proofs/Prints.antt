@@ -5,8 +5,8 @@ use Rattle.std.proofs.lemmas.Fmt.{decimal_by_steps, decimal_nonempty, length-dec
 use Rattle.std.proofs.lemmas.Bool.{le-leb, lt-ltb}
 use Rattle.std.proofs.lemmas.Bool.Decides.{nat_tests}
 use Rattle.scripts.specs.Numbers.{digit_in, and_then, digits_on, decimal_of}
-use Rattle.scripts.specs.Tokens.{letter, all_letters, tokens}
-use Rattle.scripts.proofs.Cuts.{past_blank, letters_push, front, tokens_word}
+use Rattle.scripts.specs.Tokens.{letter, tokens}
+use Rattle.scripts.proofs.Cuts.{all_letters, past_blank, letters_push, front, tokens_word}
 use Rattle.scripts.proofs.Digits.{number_some}
 
 carried : (o : Option ℕ) (f g : ℕ → Option ℕ) (m r : ℕ) → ((v : ℕ) → f v ≡ Some m → g v ≡ Some r) → and_then o f ≡ Some m → and_then o g ≡ Some r

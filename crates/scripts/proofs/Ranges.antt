@@ -1,6 +1,6 @@
 -- The numbers of a command that is understood are in range.
 use Rattle.std.proofs.Common.{◌≡◌, ℕ, ◌+◌, ◌<◌, ◌&&◌, ltb, leb, List, [], ◌∷◌, length, Some, None, Ok, Err, Option, Result, arith}
-use Rattle.std.proofs.lemmas.Bool.{ltb-true, leb-true, and_parts, cond_both}
+use Rattle.std.proofs.lemmas.Bool.{ltb-true, cond_both}
 use Rattle.scripts.specs.declared.command.Command.{Command}
 use Rattle.scripts.specs.declared.command.Command.TheVariants as command
 use Rattle.scripts.specs.declared.expected.Expected.{Expected}
@@ -19,7 +19,6 @@ use Rattle.scripts.specs.Laws.{Size, InRange, Ranged}
 use Rattle.scripts.specs.Numbers.{below, digits_on, decimal_of}
 use Rattle.scripts.specs.Parts.{command_word, report_word, station_number, message_number, value_number}
 use Rattle.scripts.specs.Readings.{Reading, taken, one, onward, ◌then◌, gives}
-use Rattle.scripts.specs.Tokens.{first, rest}
 
 -- what is there, if anything, is in P
 abbrev Of : {X : Type 0} → (X → Type 0) → Option X → Type 0
@@ -49,9 +48,10 @@ below_of limit None = tt
 below_of limit (Some n) = cond_both (ltb n limit) (Some n) None (Of (λ n. n < limit)) (λ e. ltb-true n limit e) (λ e. tt)
 
 number_all : (top : ℕ) (e : Expected) → All (λ n. n < top + 1) (one (decimal_of top) e)
-number_all top e ts =
-    taken_all (λ n. n < top + 1) (decimal_of top (first ts)) e (rest ts)
-    (cond_both (leb 1 (length (first ts)) && leb (length (first ts)) 20) (below (top + 1) (digits_on 10 0 (first ts))) None (Of (λ n. n < top + 1)) (λ b. below_of (top + 1) (digits_on 10 0 (first ts))) (λ b. tt))
+number_all top e [] = tt
+number_all top e (t ∷ ts) =
+    taken_all (λ n. n < top + 1) (decimal_of top t) e ts
+    (cond_both (leb 1 (length t) && leb (length t) 20) (below (top + 1) (digits_on 10 0 t)) None (Of (λ n. n < top + 1)) (λ b. below_of (top + 1) (digits_on 10 0 t)) (λ b. tt))
 
 abbrev Any : {X : Type 0} → X → Type 0
 Any x = Unit {0}
@@ -61,7 +61,8 @@ any_of None = tt
 any_of (Some x) = tt
 
 word_all : {X : Type 0} (f : List ℕ → Option X) (e : Expected) → All Any (one f e)
-word_all f e ts = taken_all Any (f (first ts)) e (rest ts) (any_of (f (first ts)))
+word_all f e [] = tt
+word_all f e (t ∷ ts) = taken_all Any (f t) e ts (any_of (f t))
 
 module _ {Y : Type 0} (Q : Y → Type 0) where
   after_word : {X : Type 0} (f : List ℕ → Option X) (e : Expected) (k : X → Reading Y) → ((x : X) → All Q (k x)) → All Q (one f e then k)
@@ -123,9 +124,7 @@ compare_all =
     (λ s hs. after_number InRange top expected.Station (λ t. gives (command.Compare s t)) (λ t ht us. (hs, ht)))
 
 put_all : All InRange put_of
-put_all ts =
-    cond_both (all_words ts && leb (length ts) 255) (Ok (command.Put (length ts), [])) (Err expected.Words) (Read InRange)
-    (λ e. leb-true (length ts) 255 (and_parts (all_words ts) (leb (length ts) 255) e).1) (λ e. tt)
+put_all ts = cond_both (all_words ts && leb (length ts) 255) (Ok (command.Put, [])) (Err expected.Words) (Read InRange) (λ e. tt) (λ e. tt)
 
 asked_all : (v : Verb) → All InRange (asked v)
 asked_all verb.Record = after_word InRange (named record_kinds) expected.RecordKind (λ k. gives (command.Record k)) (λ k us. tt)

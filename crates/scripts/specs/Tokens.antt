@@ -4,10 +4,8 @@
 --     uncommented line  the bytes before the first #
 --     pieces bs         what stands before, between and after the blanks; some of it may be empty
 --     tokens line       the words of a line: the pieces of what is no comment, without the empty ones
---     first ts          the first word, or one of no letters where none is left
---     rest ts           the words after the first
 --     left t            the words of what is left of a line
-use Rattle.std.specs.Prelude.{ℕ, Bool, true, cond, not, ◌&&◌, ◌||◌, List, [], ◌∷◌, ◌==◌}
+use Rattle.std.specs.Prelude.{ℕ, Bool, cond, not, ◌||◌, List, [], ◌∷◌, ◌==◌}
 use Rattle.scripts.specs.declared.tokens.Tokens.{Tokens}
 
 abbrev pub blank : ℕ → Bool
@@ -15,10 +13,6 @@ blank c = c == 32 || (c == 9 || c == 13)
 
 abbrev pub letter : ℕ → Bool
 letter c = not (blank c || c == 35)
-
-abbrev pub all_letters : List ℕ → Bool
-all_letters [] = true
-all_letters (c ∷ cs) = letter c && all_letters cs
 
 abbrev pub uncommented : List ℕ → List ℕ
 uncommented [] = []
@@ -40,14 +34,6 @@ not_empty ((c ∷ cs) ∷ ps) = (c ∷ cs) ∷ not_empty ps
 
 unfoldable pub tokens : List ℕ → List (List ℕ)
 tokens line = not_empty (pieces (uncommented line))
-
-abbrev pub first : List (List ℕ) → List ℕ
-first [] = []
-first (t ∷ ts) = t
-
-abbrev pub rest : List (List ℕ) → List (List ℕ)
-rest [] = []
-rest (t ∷ ts) = ts
 
 abbrev pub left : Tokens → List (List ℕ)
 left t = tokens t.line.now

@@ -1,17 +1,19 @@
 // Numbers in decimal and hexadecimal digits.
-ghost use Rattle.std.specs.Prelude.{◌≡◌, ◌≤◌, IfSome};
-ghost use Rattle.scripts.specs.Numbers.{digit_of, number_of, decimal_of, hexadecimal_of};
+ghost use Rattle.std.specs.Prelude.{◌≡◌, ◌<◌, ◌≤◌, IfSome};
+ghost use Rattle.scripts.specs.Numbers.{digit_in, number_of, decimal_of, hexadecimal_of};
 
-// The value of a digit, in either case.
-fn digit(byte: u8) -> Option<u8>
-    ensures { result ≡ digit_of byte }
+// The value of a digit of a base, in either case of its letter.
+fn digit(byte: u8, base: u8) -> Option<u8>
+    ensures value { result ≡ digit_in base byte }
+    ensures bound { IfSome result (λ n. n < base) }
 {
-    match byte {
-        b'0'..=b'9' => Some(byte - b'0'),
-        b'A'..=b'F' => Some(byte - b'A' + 10),
-        b'a'..=b'f' => Some(byte - b'a' + 10),
-        _ => None,
-    }
+    let value = match byte {
+        b'0'..=b'9' => byte - b'0',
+        b'A'..=b'F' => byte - b'A' + 10,
+        b'a'..=b'f' => byte - b'a' + 10,
+        _ => return None,
+    };
+    (value < base).then_some(value)
 }
 
 // The number that 1 to `longest` digits of a base write, if it is at most `top`.
@@ -25,16 +27,10 @@ fn number(token: &[u8], base: u8, longest: usize, top: u64) -> Option<u64>
     }
     let mut n: u128 = 0;
     for byte in token {
-        match digit(*byte) {
-            Some(value) if value < base => n = n * base as u128 + value as u128,
-            _ => return None,
-        }
+        let value = digit(*byte, base)?;
+        n = n * u128::from(base) + u128::from(value);
     }
-    if n <= top as u128 {
-        Some(n as u64)
-    } else {
-        None
-    }
+    u64::try_from(n).ok().filter(|n| *n <= top)
 }
 
 // A decimal number of 1 to 20 digits, if it is at most `top`.
@@ -42,18 +38,12 @@ pub(crate) fn decimal(token: &[u8], top: usize) -> Option<usize>
     ensures value { result ≡ decimal_of top token.now }
     ensures bound { IfSome result (λ n. n ≤ top) }
 {
-    match number(token, 10, 20, top as u64) {
-        Some(n) => Some(n as usize),
-        None => None,
-    }
+    number(token, 10, 20, top as u64).map(|n| n as usize)
 }
 
 // A word of 1 to 8 hexadecimal digits.
 pub(crate) fn hexadecimal(token: &[u8]) -> Option<u32>
     ensures { result ≡ hexadecimal_of token.now }
 {
-    match number(token, 16, 8, u32::MAX as u64) {
-        Some(n) => Some(n as u32),
-        None => None,
-    }
+    number(token, 16, 8, u64::from(u32::MAX)).map(|n| n as u32)
 }

@@ -1,39 +1,40 @@
 // The words of a line. A comment, from `#` on, has none.
-ghost use Rattle.std.specs.Prelude.{◌≡◌, ◌+◌, ◌<◌, ◌≤◌, true, false, length, take, drop, slice_index};
-ghost use Rattle.scripts.specs.Tokens.{blank, letter, all_letters, tokens, first, rest, left};
+ghost use Rattle.std.specs.Prelude.{◌≡◌, ℕ, ◌<◌, ◌≤◌, true, false, length, slice_index, IfOk, ⊤};
+ghost use Rattle.std.specs.Iterator.{YieldsFirstRef, item_count};
+ghost use Rattle.scripts.specs.Parts.{keyword_or, number_or};
+ghost use Rattle.scripts.specs.Readings.{Reads};
+ghost use Rattle.scripts.specs.Tokens.{blank, letter, left};
+
+use crate::expected::Expected;
+use crate::keywords::Keyword;
+use crate::numbers::decimal;
 
 fn is_blank(byte: u8) -> bool
     ensures { result ≡ blank byte }
 {
-    byte == b' ' || byte == b'\t' || byte == b'\r'
+    matches!(byte, b' ' | b'\t' | b'\r')
 }
 
 // How many blanks stand at the front.
 fn blanks(line: &[u8]) -> usize
     ensures bound { result ≤ length line.now }
-    ensures same { tokens (drop result line.now) ≡ tokens line.now }
+    ensures front { (k : ℕ) → k < result → blank (slice_index line.now k) ≡ true }
     ensures ends { result < length line.now → blank (slice_index line.now result) ≡ false }
 {
-    for (i, byte) in line.iter().enumerate() {
-        if !is_blank(*byte) {
-            return i;
-        }
-    }
-    line.len()
+    line.iter()
+        .position(|byte| !is_blank(*byte))
+        .unwrap_or(line.len())
 }
 
 // How many bytes of one word stand at the front.
 fn letters(line: &[u8]) -> usize
     ensures bound { result ≤ length line.now }
-    ensures front { all_letters (take result line.now) ≡ true }
+    ensures front { (k : ℕ) → k < result → letter (slice_index line.now k) ≡ true }
     ensures ends { result < length line.now → letter (slice_index line.now result) ≡ false }
 {
-    for (i, byte) in line.iter().enumerate() {
-        if is_blank(*byte) || *byte == b'#' {
-            return i;
-        }
-    }
-    line.len()
+    line.iter()
+        .position(|byte| is_blank(*byte) || *byte == b'#')
+        .unwrap_or(line.len())
 }
 
 // What is left of a line.
@@ -42,17 +43,42 @@ pub struct Tokens<'a> {
     pub line: &'a [u8],
 }
 
-impl<'a> Tokens<'a> {
-    // Goes past the next word, and answers it; at the end it is empty.
-    pub(crate) fn next(&mut self) -> &'a [u8]
-        ensures value { result.now ≡ first (left self.old) }
-        ensures after { left self.new ≡ rest (left self.old) }
-        ensures bound { length result.now + length self.new.line.now ≤ length self.old.line.now }
-    {
+// Each call goes past the next word, and answers it.
+impl<'a> Iterator for Tokens<'a> {
+    type Item = &'a [u8];
+
+    ghost can_next = { λ _. ⊤ };
+
+    ghost next_gives = { YieldsFirstRef left };
+
+    ghost remaining = { item_count left };
+
+    fn next(&mut self) -> Option<&'a [u8]> {
         let start = blanks(self.line);
         let line = &self.line[start..];
         let len = letters(line);
         self.line = &line[len..];
-        &line[0..len]
+        (len > 0).then_some(&line[0..len])
+    }
+}
+
+impl<'a> Tokens<'a> {
+    // The meaning of the next word, or what should have stood there.
+    pub(crate) fn keyword<K: Keyword>(&mut self, expected: Expected) -> Result<K, Expected>
+        ensures { Reads (keyword_or K.names expected) (left self.old) result (left self.new) }
+    {
+        self.next()
+            .and_then(|token| K::named(token))
+            .ok_or(expected)
+    }
+
+    // The number that the next word is, of at most `top`, or what should have stood there.
+    pub(crate) fn number(&mut self, top: usize, expected: Expected) -> Result<usize, Expected>
+        ensures value { Reads (number_or top expected) (left self.old) result (left self.new) }
+        ensures bound { IfOk result (λ n. n ≤ top) }
+    {
+        self.next()
+            .and_then(|token| decimal(token, top))
+            .ok_or(expected)
     }
 }

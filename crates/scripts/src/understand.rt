@@ -7,19 +7,19 @@ ghost use Rattle.scripts.specs.Tokens.{tokens as tokens_of, left};
 
 use crate::command::Command;
 use crate::expected::Expected;
-use crate::keywords::{Kind, Shape, Verb, verb_of};
+use crate::keywords::{Keyword, Kind, Shape, Verb};
 use crate::numbers::hexadecimal;
-use crate::parts;
 use crate::store::{MailboxShape, Store};
 use crate::tokens::Tokens;
+use arrayvec::ArrayVec;
 
 // A store after its first word.
 fn store(shape: Shape, tokens: &mut Tokens) -> Result<Store, Expected>
     ensures { Reads (store_by shape) (left tokens.old) result (left tokens.new) }
 {
     match shape {
-        Shape::Words => Ok(Store::Words(parts::size(tokens)?)),
-        Shape::Pages => Ok(Store::Pages(parts::size(tokens)?)),
+        Shape::Words => Ok(Store::Words(tokens.number(1_000_000, Expected::Size)?)),
+        Shape::Pages => Ok(Store::Pages(tokens.number(1_000_000, Expected::Size)?)),
         Shape::Image => Ok(Store::Image),
         Shape::Overflow => Err(Expected::Store),
     }
@@ -29,14 +29,14 @@ fn store(shape: Shape, tokens: &mut Tokens) -> Result<Store, Expected>
 fn part(tokens: &mut Tokens) -> Result<Store, Expected>
     ensures { Reads part_of (left tokens.old) result (left tokens.new) }
 {
-    let shape = parts::store_word(tokens)?;
+    let shape = tokens.keyword(Expected::Store)?;
     store(shape, tokens)
 }
 
 fn mailbox(tokens: &mut Tokens) -> Result<Command, Expected>
     ensures { Reads mailbox_of (left tokens.old) result (left tokens.new) }
 {
-    match parts::mailbox_word(tokens)? {
+    match tokens.keyword(Expected::Mailbox)? {
         Shape::Overflow => {
             let first = part(tokens)?;
             let second = part(tokens)?;
@@ -52,9 +52,9 @@ fn mailbox(tokens: &mut Tokens) -> Result<Command, Expected>
 fn report(tokens: &mut Tokens) -> Result<Command, Expected>
     ensures { Reads report_of (left tokens.old) result (left tokens.new) }
 {
-    let station = parts::station(tokens)?;
-    let what = parts::report_word(tokens)?;
-    let value = parts::value(tokens)?;
+    let station = tokens.number(usize::MAX, Expected::Station)?;
+    let what = tokens.keyword(Expected::What)?;
+    let value = tokens.number(u32::MAX as usize, Expected::Value)? as u32;
     Ok(Command::Report {
         station,
         what,
@@ -65,8 +65,8 @@ fn report(tokens: &mut Tokens) -> Result<Command, Expected>
 fn send(tokens: &mut Tokens) -> Result<Command, Expected>
     ensures { Reads send_of (left tokens.old) result (left tokens.new) }
 {
-    let kind = parts::send_word(tokens)?;
-    let station = parts::station(tokens)?;
+    let kind = tokens.keyword(Expected::Send)?;
+    let station = tokens.number(usize::MAX, Expected::Station)?;
     match kind {
         Kind::Delta => Ok(Command::SendDelta { station }),
         Kind::Full => Ok(Command::SendFull { station }),
@@ -74,95 +74,88 @@ fn send(tokens: &mut Tokens) -> Result<Command, Expected>
 }
 
 // Every word that is left goes to the given words. Where one is refused, those before it are there.
-fn put(tokens: &mut Tokens, words: &mut [u32; 255]) -> Result<Command, Expected>
+fn put(tokens: &mut Tokens, words: &mut ArrayVec<u32, 255>) -> Result<Command, Expected>
     ensures answer { Reads put_of (left tokens.old) result (left tokens.new) }
-    ensures words { words.new ≡ words_put (left tokens.old) words.old }
+    ensures words { words.new.items ≡ words_put (left tokens.old) }
 {
-    let mut len = 0;
-    loop {
-        let token = tokens.next();
-        if token.is_empty() {
-            return Ok(Command::Put { len });
-        }
-        let Some(word) = hexadecimal(token) else {
-            return Err(Expected::Words);
-        };
-        if len == words.len() {
-            return Err(Expected::Words);
-        }
-        words[len] = word;
-        len += 1;
+    words.clear();
+    // `while let`: after `for token in tokens` nothing is known of what `tokens` has left
+    while let Some(token) = tokens.next() {
+        let word = hexadecimal(token).ok_or(Expected::Words)?;
+        words.try_push(word).map_err(|_| Expected::Words)?;
     }
+    Ok(Command::Put)
 }
 
 fn fetch(tokens: &mut Tokens) -> Result<Command, Expected>
     ensures { Reads fetch_of (left tokens.old) result (left tokens.new) }
 {
-    let station = parts::station(tokens)?;
-    let message = parts::message(tokens)?;
+    let station = tokens.number(usize::MAX, Expected::Station)?;
+    let message = tokens.number(usize::MAX, Expected::Message)?;
     Ok(Command::Fetch { station, message })
 }
 
 fn compare(tokens: &mut Tokens) -> Result<Command, Expected>
     ensures { Reads compare_of (left tokens.old) result (left tokens.new) }
 {
-    let left = parts::station(tokens)?;
-    let right = parts::station(tokens)?;
+    let left = tokens.number(usize::MAX, Expected::Station)?;
+    let right = tokens.number(usize::MAX, Expected::Station)?;
     Ok(Command::Compare { left, right })
 }
 
 // What a verb and the words after it ask for.
-fn asked(verb: Verb, tokens: &mut Tokens, words: &mut [u32; 255]) -> Result<Command, Expected>
+fn asked(
+    verb: Verb,
+    tokens: &mut Tokens,
+    words: &mut ArrayVec<u32, 255>,
+) -> Result<Command, Expected>
     ensures answer { Reads (asked verb) (left tokens.old) result (left tokens.new) }
-    ensures words { words.new ≡ leaves verb (left tokens.old) words.old }
+    ensures words { words.new.items ≡ leaves verb (left tokens.old) words.old.items }
 {
     match verb {
-        Verb::Record => Ok(Command::Record(parts::record_word(tokens)?)),
-        Verb::Stations => Ok(Command::Stations(parts::stations(tokens)?)),
+        Verb::Record => Ok(Command::Record(tokens.keyword(Expected::RecordKind)?)),
+        Verb::Stations => Ok(Command::Stations(tokens.number(100, Expected::Stations)?)),
         Verb::Mailbox => mailbox(tokens),
         Verb::Report => report(tokens),
         Verb::Send => send(tokens),
         Verb::Put => put(tokens, words),
         Verb::Fetch => fetch(tokens),
         Verb::Discard => Ok(Command::Discard {
-            message: parts::message(tokens)?,
+            message: tokens.number(usize::MAX, Expected::Message)?,
         }),
         Verb::Count => Ok(Command::Count),
         Verb::Fits => Ok(Command::Fits {
-            len: parts::length(tokens)?,
+            len: tokens.number(usize::MAX, Expected::Length)?,
         }),
         Verb::Read => Ok(Command::Read {
-            message: parts::message(tokens)?,
+            message: tokens.number(usize::MAX, Expected::Message)?,
         }),
         Verb::Show => Ok(Command::Show {
-            station: parts::station(tokens)?,
+            station: tokens.number(usize::MAX, Expected::Station)?,
         }),
         Verb::Compare => compare(tokens),
         Verb::Image => Ok(Command::Image),
     }
 }
 
-// Understands one line: None where it asks for nothing. The words of a put go to the front of `words`; where one of them is
-// refused, those before it are there. What is printed of a command is understood as that command, but for a put, which is
-// printed without its words.
-pub fn understand(line: &[u8], words: &mut [u32; 255]) -> Result<Option<Command>, Expected>
+// Understands one line: None where it asks for nothing. After a put `words` holds the words that are put, and no others; where one
+// of them is refused, those before it. What is printed of a command is understood as that command, but for a put, which is printed
+// without its words.
+#[tactic(auto, using(crate::proofs::Back::printed_back))]
+pub fn understand(line: &[u8], words: &mut ArrayVec<u32, 255>) -> Result<Option<Command>, Expected>
     ensures answer { result ≡ understood (tokens_of line.now) }
-    ensures words { words.new ≡ words_after (tokens_of line.now) words.old }
+    ensures words { words.new.items ≡ words_after (tokens_of line.now) words.old.items }
     ensures range { Ranged result }
     ensures law { PrintedBack }
 {
     let mut tokens = Tokens { line };
-    let first = tokens.next();
-    if first.is_empty() {
+    let Some(first) = tokens.next() else {
         return Ok(None);
-    }
-    let Some(verb) = verb_of(first) else {
-        return Err(Expected::Command);
     };
+    let verb = Verb::named(first).ok_or(Expected::Command)?;
     let command = asked(verb, &mut tokens, words)?;
-    if tokens.next().is_empty() {
-        Ok(Some(command))
-    } else {
-        Err(Expected::End)
+    match tokens.next() {
+        None => Ok(Some(command)),
+        Some(_) => Err(Expected::End),
     }
 }
