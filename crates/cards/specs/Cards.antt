@@ -10,10 +10,11 @@
 use Rattle.std.specs.Prelude.{ℕ, Bool, List, ℤ, pos, ◌-ℤ◌, sum}
 use Rattle.crdt.specs.declared.pair.Pair.{Pair}
 use Rattle.crdt.specs.Pairs.{side_written}
-use Rattle.counters.specs.declared.g_counter.GCounter.{GCounter}
+use Rattle.counters.specs.declared.counts.Counts.{Counts}
 use Rattle.counters.specs.Counts.{counter_of}
 use Rattle.entries.specs.Entries.{row_written}
 use Rattle.entries.specs.Rows.{Row}
+use Rattle.entries.specs.declared.kind.Counter.{Counter as CounterKind}
 use Rattle.registers.specs.declared.gset.GSet.{GSet}
 use Rattle.registers.specs.declared.max_register.MaxRegister.{MaxRegister}
 use Rattle.registers.specs.Members.{Members, members_of, has, count}
@@ -21,6 +22,10 @@ use Rattle.registers.specs.Values.{Level, level_of, level_written}
 
 abbrev pub Counter : Type 0
 Counter = Row 16777215
+
+-- a stored counter
+abbrev pub GCounter : Type 0
+GCounter = Counts CounterKind
 
 abbrev pub Card : Type 0
 Card = (Counter × (Counter × Counter)) × (Members × Level)

@@ -1,13 +1,13 @@
 -- Worked examples, in the definitions that the contracts of the record kinds cite. Assumes nothing.
 --     WorkedExamples     all of them
-use Rattle.std.specs.Prelude.{◌≡◌, ℕ, [], ◌∷◌, negsuc, Ok, Err, sum}
+use Rattle.std.specs.Prelude.{◌≡◌, ℕ, [], ◌∷◌, negsuc, Some, None, Ok, Err, sum}
+use Rattle.std.specs.declared.cmp.Ordering.TheVariants.{Less}
 use Rattle.words.specs.declared.reader.Reader.{Reader}
 use Rattle.words.specs.Readings.{load_answer, left}
 use Rattle.entries.specs.Rows.{empty}
 use Rattle.entries.specs.Entries.{row_written, row_reading}
 use Rattle.counters.specs.Counts.{clock_of, larger, only, count_reported}
 use Rattle.counters.specs.Orders.{compared}
-use Rattle.counters.specs.declared.clock_order.ClockOrder.TheVariants.{Behind, Sideways}
 use Rattle.registers.specs.declared.gset.Member.{Member}
 use Rattle.registers.specs.Members.{none, alone, set_reported}
 use Rattle.registers.specs.Values.{level_of}
@@ -43,8 +43,8 @@ pub record WorkedExamples : Type 0 where
   pub last_member_word : row_written 7 (alone 255) ≡ 0x7F008000 ∷ 0x90000001 ∷ []
   pub past_members : (r : Member) → r.0 ≡ 256 → set_reported none 0 r ≡ Err 2
   -- clock {0:2, 1:1} is sideways to {0:1, 1:2}, and {0:1} is behind the latter
-  pub sideways : compared (clock_of (2 ∷ 1 ∷ [])) (clock_of (1 ∷ 2 ∷ [])) ≡ Sideways
-  pub behind : compared (clock_of (1 ∷ [])) (clock_of (1 ∷ 2 ∷ [])) ≡ Behind
+  pub sideways : compared (clock_of (2 ∷ 1 ∷ [])) (clock_of (1 ∷ 2 ∷ [])) ≡ None
+  pub behind : compared (clock_of (1 ∷ [])) (clock_of (1 ∷ 2 ∷ [])) ≡ Some Less
   -- with erased 5 and 2 at station 0, its first delta message
   pub first_message : packed_by {C = Clock} clock_written card_written (delta 0 0 2 ((five_and_two, (empty 16777215, empty 16777215)), (none, level_of 0))) ≡ 0x20000009 ∷ 0x30000000 ∷ 0x40000002 ∷ 0x60000007 ∷ 0x90000001 ∷ 0x90000000 ∷ 0x90000000 ∷ 0x90000000 ∷ 0x80000000 ∷ []
   -- the page head of 9 words is the bytes 09 00 00 F0; F0 00 00 09 reads as kind 0 and is refused as 10

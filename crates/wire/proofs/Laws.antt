@@ -4,8 +4,7 @@ use Rattle.std.proofs.lemmas.Bool.{cond-true, cond-false, eq-eqb, ne_eqb}
 use Rattle.words.specs.Readings.{Reading, read, wrong}
 use Rattle.words.specs.Words.{kind, index, word_of}
 use Rattle.crdt.specs.declared.kind.Crdt.{Ghosts}
-use Rattle.entries.specs.declared.kind.EntryKind.TheVariants as entry
-use Rattle.entries.proofs.Fits.{fits}
+use Rattle.entries.specs.Fits.{clock_fits}
 use Rattle.entries.proofs.Scans.{row_reads, row_exact}
 use Rattle.wire.specs.Messages.{Message, full, delta, head_word, headed, packed_by, SendableBy, Clock, clock_written}
 use Rattle.wire.specs.Openings.{head_found, span_reading, mapped, full_from, delta_from, after_head, head_read, opening_by, with_record, completed, loaded_by, unpacked_by, clock_reading, opening, without_record, record_of, OneToOne}
@@ -138,10 +137,10 @@ pub clock_long : (c : Clock) → 1 ≤ length (clock_written c)
 clock_long c = simp length-append (omega arith)
 
 pub clock_reads : (c : Clock) (ws : List ℕ) → clock_reading (clock_written c ++ ws) ≡ read c ws
-clock_reads = row_reads 5 65535 (fits entry.Clock)
+clock_reads = row_reads 5 65535 clock_fits
 
 pub clock_exact : (ws : List ℕ) (c : Clock) (more : List ℕ) → clock_reading ws ≡ read c more → ws ≡ clock_written c ++ more
-clock_exact = row_exact 5 65535 (fits entry.Clock)
+clock_exact = row_exact 5 65535 clock_fits
 
 -- the parts of the words of an opened message
 pub parts : (ws : List ℕ) (m : Message Clock (Unit {0})) (more : List ℕ) → opening ws ≡ read m more → (ws ≡ packed_by clock_written (λ xs. xs) (with_record m more)) × SendableBy clock_written (λ xs. xs) (with_record m more)
