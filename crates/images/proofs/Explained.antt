@@ -13,6 +13,11 @@ use Rattle.images.specs.Causes.{past_zeros, foreign_head, cause_of, wrong_byte}
 use Rattle.images.specs.Diagnoses.{page_at, after_empty, cause_at, Diagnosed, explained, diagnosed, diagnosis}
 use Rattle.images.proofs.Walks.{refused, not_paged}
 
+pub after_empty_is : (bs : List ℕ) (p : ℕ) (z : Bool) → 512 ≤ p → z ≡ all_zero (take (p - (p - 512)) (drop (p - 512) bs)) → z ≡ after_empty p bs
+after_empty_is bs p z h e =
+    let j : p - (p - 512) ≡ 512 = omega arith in
+    e ∙ ap (λ n. all_zero (take n (drop (p - 512) bs))) j ∙ sym (ap (λ t. t && all_zero (page_at (p - 512) bs)) (le-leb 512 p h))
+
 pub explained_is : (bs page : List ℕ) (f : Told) (h w : ℕ) (a fo : Bool) (c : Cause) → page ≡ page_at f.place bs → h ≡ word_at page 0 → a ≡ after_empty f.place bs → c ≡ cause_of a h → w ≡ wrong_byte c page → fo ≡ foreign_head page → ◌≡◌ {A = Diagnosed} (record { fault = f; byte = f.place + w; cause = c; foreign = fo }) (explained bs f)
 explained_is bs page f h w a fo c ep eh ea ec ew ef =
     let e1 : c ≡ cause_at f.place bs = ec ∙ ap (λ x. cause_of x h) ea ∙ ap (cause_of (after_empty f.place bs)) (eh ∙ ap (λ x. word_at x 0) ep) in
