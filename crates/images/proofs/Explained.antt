@@ -1,6 +1,5 @@
 -- What a diagnosis is, from what its parts are. Assumes nothing.
-use Rattle.std.proofs.Common.{◌≡◌, ℕ, ◌+◌, ◌-◌, ◌≤◌, Bool, true, false, cond, ◌&&◌, eqb, List, length, take, drop, Some, None, Ok, Err, Option, sym, refl, ap, ◌∙◌, zero-add, arith}
-use Rattle.std.proofs.lemmas.List.{length-take-le, length-drop}
+use Rattle.std.proofs.Common.{◌≡◌, ℕ, ◌+◌, ◌-◌, ◌≤◌, Bool, true, false, cond, ◌&&◌, List, length, take, drop, Some, None, Ok, Err, Option, sym, refl, ap, ◌∙◌, arith}
 use Rattle.std.proofs.lemmas.Bool.{le-leb}
 use Rattle.words.specs.declared.refusal.Refusal.{Refusal}
 use Rattle.words.specs.declared.refusal.Refusal.TheVariants.{Station, Range, Limit, Spent, Nothing, Room, Long, Full, Absent, Kind, Form, Ended, Length, Gap, Ahead, Memory}
@@ -9,7 +8,7 @@ use Rattle.words.specs.Readings.{Told}
 use Rattle.layouts.specs.Pages.{word_at}
 use Rattle.layouts.specs.Mounts.{all_zero, paged, mount_check}
 use Rattle.images.specs.declared.diagnosis.Cause.{Cause}
-use Rattle.images.specs.Causes.{past_zeros, foreign_head, cause_of, wrong_byte}
+use Rattle.images.specs.Causes.{foreign_head, cause_of, wrong_byte}
 use Rattle.images.specs.Diagnoses.{page_at, after_empty, cause_at, Diagnosed, explained, diagnosed, diagnosis}
 use Rattle.images.proofs.Walks.{refused, not_paged}
 

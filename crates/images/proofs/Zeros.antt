@@ -1,8 +1,8 @@
 -- The zero bytes that come first. Assumes nothing.
-use Rattle.std.proofs.Common.{◌≡◌, ℕ, zero, suc, ◌+◌, ◌*◌, ◌<◌, ◌≤◌, Bool, true, false, cond, ◌&&◌, eqb, List, [], ◌∷◌, length, get_or, take, drop, sym, refl, ap, ◌∙◌, ⊎_elim, arith}
-use Rattle.std.proofs.lemmas.List.{length-take, length-drop, at_drop_more}
-use Rattle.std.proofs.lemmas.List.Sums.{prefix_len-le-length, prefix_len_passes, prefix_len_stops, prefix_len-drop_no, prefix_len-drop_all}
-use Rattle.std.proofs.lemmas.Bool.{true≢false, eq-eqb, ne_eqb, eqb-true, eqb-false, and_parts, cases_Bool}
+use Rattle.std.proofs.Common.{◌≡◌, ℕ, suc, ◌+◌, ◌*◌, ◌<◌, ◌≤◌, Bool, true, false, cond, ◌&&◌, eqb, List, [], ◌∷◌, length, get_or, take, drop, refl, ap, ◌∙◌, arith}
+use Rattle.std.proofs.lemmas.List.{length-take, length-drop}
+use Rattle.std.proofs.lemmas.List.Sums.{prefix_len-le-length, prefix_len_passes, prefix_len_stops, prefix_len-drop_yes, prefix_len-drop_no, prefix_len-drop_all}
+use Rattle.std.proofs.lemmas.Bool.{true≢false, eq-eqb, ne_eqb, eqb-true, eqb-false, and_parts}
 use Rattle.layouts.specs.Pages.{page_length}
 use Rattle.layouts.specs.Mounts.{all_zero}
 use Rattle.images.specs.declared.diagnosis.Cause.{Cause}
@@ -35,8 +35,7 @@ zeros_few bs = prefix_len-le-length (λ b. eqb b 0) bs
 -- one zero byte more, and the end of the zero bytes
 pub past_more : (bs : List ℕ) (i : ℕ) → i < length bs → get_or bs i 0 ≡ 0 → past_zeros i bs ≡ past_zeros (i + 1) bs
 past_more bs i h z =
-    let e : zeros (drop i bs) ≡ cond (eqb (get_or bs i 0) 0) (1 + zeros (drop (i + 1) bs)) 0 = at_drop_more zeros bs i 0 h in
-    let f : zeros (drop i bs) ≡ 1 + zeros (drop (i + 1) bs) = e ∙ ap (λ t. cond t (1 + zeros (drop (i + 1) bs)) 0) (eq-eqb (get_or bs i 0) 0 z) in
+    let f : zeros (drop i bs) ≡ 1 + zeros (drop (i + 1) bs) = prefix_len-drop_yes (λ b. eqb b 0) bs i 0 h (eq-eqb (get_or bs i 0) 0 z) in
     omega arith
 
 pub past_set : (bs : List ℕ) (i : ℕ) → i < length bs → (get_or bs i 0 ≡ 0 → ⊥) → past_zeros i bs ≡ i
