@@ -1,6 +1,5 @@
 -- What a diagnosis is, from what its parts are. Assumes nothing.
-use Rattle.std.proofs.Common.{◌≡◌, ℕ, ◌+◌, ◌-◌, ◌≤◌, Bool, true, false, cond, ◌&&◌, eqb, List, length, take, drop, Some, None, Ok, Err, Option, sym, refl, ap, ◌∙◌, zero-add, arith}
-use Rattle.std.proofs.lemmas.List.{length-take-le, length-drop}
+use Rattle.std.proofs.Common.{◌≡◌, ℕ, ◌+◌, ◌-◌, ◌≤◌, Bool, true, false, cond, ◌&&◌, List, length, take, drop, Some, None, Ok, Err, Option, sym, refl, ap, ◌∙◌, arith}
 use Rattle.std.proofs.lemmas.Bool.{le-leb}
 use Rattle.words.specs.declared.refusal.Refusal.{Refusal}
 use Rattle.words.specs.declared.refusal.Refusal.TheVariants.{Station, Range, Limit, Spent, Nothing, Room, Long, Full, Absent, Kind, Form, Ended, Length, Gap, Ahead, Memory}
@@ -9,9 +8,14 @@ use Rattle.words.specs.Readings.{Told}
 use Rattle.layouts.specs.Pages.{word_at}
 use Rattle.layouts.specs.Mounts.{all_zero, paged, mount_check}
 use Rattle.images.specs.declared.diagnosis.Cause.{Cause}
-use Rattle.images.specs.Causes.{past_zeros, foreign_head, cause_of, wrong_byte}
+use Rattle.images.specs.Causes.{foreign_head, cause_of, wrong_byte}
 use Rattle.images.specs.Diagnoses.{page_at, after_empty, cause_at, Diagnosed, explained, diagnosed, diagnosis}
 use Rattle.images.proofs.Walks.{refused, not_paged}
+
+pub after_empty_is : (bs : List ℕ) (p : ℕ) (z : Bool) → 512 ≤ p → z ≡ all_zero (take (p - (p - 512)) (drop (p - 512) bs)) → z ≡ after_empty p bs
+after_empty_is bs p z h e =
+    let j : p - (p - 512) ≡ 512 = omega arith in
+    e ∙ ap (λ n. all_zero (take n (drop (p - 512) bs))) j ∙ sym (ap (λ t. t && all_zero (page_at (p - 512) bs)) (le-leb 512 p h))
 
 pub explained_is : (bs page : List ℕ) (f : Told) (h w : ℕ) (a fo : Bool) (c : Cause) → page ≡ page_at f.place bs → h ≡ word_at page 0 → a ≡ after_empty f.place bs → c ≡ cause_of a h → w ≡ wrong_byte c page → fo ≡ foreign_head page → ◌≡◌ {A = Diagnosed} (record { fault = f; byte = f.place + w; cause = c; foreign = fo }) (explained bs f)
 explained_is bs page f h w a fo c ep eh ea ec ew ef =

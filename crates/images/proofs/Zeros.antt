@@ -1,8 +1,8 @@
 -- The zero bytes that come first. Assumes nothing.
-use Rattle.std.proofs.Common.{◌≡◌, ℕ, zero, suc, ◌+◌, ◌*◌, ◌<◌, ◌≤◌, Bool, true, false, cond, ◌&&◌, eqb, List, [], ◌∷◌, length, get_or, take, drop, sym, refl, ap, ◌∙◌, ⊎_elim, arith}
+use Rattle.std.proofs.Common.{◌≡◌, ℕ, suc, ◌+◌, ◌*◌, ◌<◌, ◌≤◌, Bool, true, false, cond, ◌&&◌, eqb, List, [], ◌∷◌, length, get_or, take, drop, refl, ap, ◌∙◌, arith}
 use Rattle.std.proofs.lemmas.List.{length-take, length-drop}
-use Rattle.std.proofs.lemmas.List.Sums.{prefix_len-le-length, prefix_len_passes, prefix_len_stops}
-use Rattle.std.proofs.lemmas.Bool.{true≢false, eq-eqb, ne_eqb, eqb-true, eqb-false, and_parts, cases_Bool}
+use Rattle.std.proofs.lemmas.List.Sums.{prefix_len-le-length, prefix_len_passes, prefix_len_stops, prefix_len-drop_yes, prefix_len-drop_no, prefix_len-drop_all}
+use Rattle.std.proofs.lemmas.Bool.{true≢false, eq-eqb, ne_eqb, eqb-true, eqb-false, and_parts}
 use Rattle.layouts.specs.Pages.{page_length}
 use Rattle.layouts.specs.Mounts.{all_zero}
 use Rattle.images.specs.declared.diagnosis.Cause.{Cause}
@@ -31,6 +31,22 @@ zeros_before bs k h = eqb-true (get_or bs k 0) 0 (prefix_len_passes (λ b. eqb b
 
 pub zeros_few : (bs : List ℕ) → zeros bs ≤ length bs
 zeros_few bs = prefix_len-le-length (λ b. eqb b 0) bs
+
+-- one zero byte more, and the end of the zero bytes
+pub past_more : (bs : List ℕ) (i : ℕ) → i < length bs → get_or bs i 0 ≡ 0 → past_zeros i bs ≡ past_zeros (i + 1) bs
+past_more bs i h z =
+    let f : zeros (drop i bs) ≡ 1 + zeros (drop (i + 1) bs) = prefix_len-drop_yes (λ b. eqb b 0) bs i 0 h (eq-eqb (get_or bs i 0) 0 z) in
+    omega arith
+
+pub past_set : (bs : List ℕ) (i : ℕ) → i < length bs → (get_or bs i 0 ≡ 0 → ⊥) → past_zeros i bs ≡ i
+past_set bs i h z =
+    let f : zeros (drop i bs) ≡ 0 = prefix_len-drop_no (λ b. eqb b 0) bs i 0 h (ne_eqb (get_or bs i 0) 0 z) in
+    omega arith
+
+pub past_end : (bs : List ℕ) (i : ℕ) → length bs ≤ i → past_zeros i bs ≡ i
+past_end bs i h =
+    let f : zeros (drop i bs) ≡ 0 = prefix_len-drop_all (λ b. eqb b 0) bs i h in
+    omega arith
 
 pub wrong_few : (c : Cause) (page : List ℕ) → length page ≡ 512 → wrong_byte c page ≤ 1024
 wrong_few Kind page l = omega arith

@@ -5,7 +5,7 @@
 --     foreign_head page      the first four bytes of a page are one, when they are read in the other order
 --     cause_of after w       why a page with the head w is refused, where after is whether the page before it is empty
 --     wrong_byte cause page  which byte of the page is wrong
-use Rattle.std.specs.Prelude.{ℕ, suc, ◌+◌, ◌*◌, ◌%◌, ◌^◌, Bool, cond, ◌&&◌, List, [], ◌∷◌, take, drop, ◌==◌, slice_index}
+use Rattle.std.specs.Prelude.{ℕ, ◌+◌, ◌*◌, ◌%◌, ◌^◌, Bool, cond, ◌&&◌, List, take, drop, ◌==◌, slice_index}
 use Rattle.std.specs.List.{prefix_len}
 use Rattle.words.specs.Words.{kind, formed}
 use Rattle.mailboxes.specs.Mailboxes.{sized}

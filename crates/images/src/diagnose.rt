@@ -12,7 +12,7 @@ ghost use Rattle.images.specs.Laws.{Accepted, Within, Says, Foreign, TurnedFound
 use crate::diagnosis::{Cause, Diagnosis};
 use mailboxes::mailbox::is_sized;
 use page_mailbox::PageMailbox;
-use page_mailbox::bytes::{PAGE, head_of};
+use page_mailbox::bytes::{PAGE, head_of, is_zero};
 use words::fault::Fault;
 use words::refusal::Refusal;
 use words::word::{Word, WordKind};
@@ -21,11 +21,12 @@ use words::word::{Word, WordKind};
 fn past_zeros(bytes: &[u8], from: usize) -> usize
     ensures { result ≡ past_zeros from bytes.now }
 {
-    from + bytes
-        .iter()
-        .skip(from)
-        .take_while(|byte| **byte == 0)
-        .count()
+    // A loop: of `skip`, `take_while` and `count` in a row the search did not prove the count.
+    let mut place = from;
+    while place < bytes.len() && bytes[place] == 0 {
+        place += 1;
+    }
+    place
 }
 
 // Whether it is the page head of a message.
@@ -80,7 +81,7 @@ fn is_after_empty(bytes: &[u8], place: usize) -> bool
     requires { place ≤ length bytes.now }
     ensures { result ≡ after_empty place bytes.now }
 {
-    place >= PAGE && bytes[place - PAGE..place].iter().all(|byte| *byte == 0)
+    place >= PAGE && is_zero(&bytes[place - PAGE..place])
 }
 
 // What is wrong with the page at the place of a fault.
@@ -111,7 +112,9 @@ pub fn diagnose(bytes: &[u8]) -> Option<Diagnosis>
 {
     match PageMailbox::check(bytes) {
         Ok(_) => None,
-        Err(fault) if fault.refusal == Refusal::Memory => None,
-        Err(fault) => Some(explain(bytes, fault)),
+        Err(fault) => match fault.refusal {
+            Refusal::Memory => None,
+            _ => Some(explain(bytes, fault)),
+        },
     }
 }

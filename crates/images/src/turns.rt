@@ -10,7 +10,8 @@ pub fn turn_round(bytes: &mut [u8])
     ensures words { (ws : List ℕ) → bytes.old ≡ bytes_of ws → bytes.new ≡ foreign_of ws }
     ensures twice { turned bytes.new ≡ bytes.old }
 {
-    for word in bytes.chunks_exact_mut(4) {
-        word.reverse();
+    // By their places: what is written through `chunks_exact_mut` is not known after the loop.
+    for i in 0..bytes.len() / 4 {
+        bytes[4 * i..4 * i + 4].reverse();
     }
 }

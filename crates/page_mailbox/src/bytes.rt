@@ -17,7 +17,7 @@ pub fn head_of(page: &[u8; PAGE]) -> Word
 }
 
 // Whether every byte is zero.
-pub(crate) fn is_zero(bytes: &[u8]) -> bool
+pub fn is_zero(bytes: &[u8]) -> bool
     ensures { result ≡ all_zero bytes.now }
 {
     bytes.iter().all(|byte| *byte == 0)

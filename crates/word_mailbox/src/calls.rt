@@ -69,7 +69,8 @@ impl<'a> Mailbox for WordMailbox<'a> {
         let used = self.used;
         let head = Word::new(WordKind::PageHead, n as u32);
         self.words[used] = head.0;
-        self.words[used + 1..used + 1 + n].copy_from_slice(message);
+        let rest = &mut self.words[used + 1..used + 1 + n];
+        rest.copy_from_slice(message);
         self.used += n + 1;
         self.held += 1;
         Ok(())

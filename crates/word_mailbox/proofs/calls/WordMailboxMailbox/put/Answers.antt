@@ -8,8 +8,8 @@ use Rattle.word_mailbox.proofs.calls.WordMailboxMailbox.put.Goals as goal
 pub bounds-self-used : goal.bounds-self-used
 bounds-self-used c = let r = takes_room c.args.self.now (length c.args.message.now) (sym c.if-not-fits.ensures) in omega (arith, r.1)
 
-pub slice_bounds-copy_from_slice-end : goal.slice_bounds-copy_from_slice-end
-slice_bounds-copy_from_slice-end c =
+pub slice_bounds-rest-end : goal.slice_bounds-rest-end
+slice_bounds-rest-end c =
     let r = takes_room c.args.self.now (length c.args.message.now) (sym c.if-not-fits.ensures) in
     simp length-set (omega (arith, r.1))
 
