@@ -17,7 +17,7 @@ pub in_any_case : {T E : Type 0} (r : Result T E) {A B : Type 0} → A → B →
 in_any_case (Ok x) a b = tt
 in_any_case (Err e) a b = (a, b)
 
--- a call c, which is asked as d and whose answer is told as a and b, from cluster y to z, given words old and left new
+-- a call c whose answer is told as a, from cluster y to z, given words old and left new
 pub record Owed {S R : Type 0} (K : Ghosts S R) (y z : Cluster K.Value) (c : Call R) (a : Said) (old new : List ℕ) : Type 0 where
   pub step : Step K y c a z
   pub words : new ≡ words_after K y c old

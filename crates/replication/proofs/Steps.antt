@@ -1,5 +1,5 @@
 -- The step that a call makes, from what its contract says. Assumes nothing.
-use Rattle.std.proofs.Common.{◌≡◌, ℕ, ◌<◌, Bool, true, false, cond, ltb, List, [], ◌∷◌, map, length, get_or, Ok, Err, Result, sym, refl, ap, ◌∙◌, subst, arith, length-append}
+use Rattle.std.proofs.Common.{◌≡◌, ℕ, ◌<◌, Bool, true, false, cond, ltb, List, [], ◌∷◌, map, length, get_or, Ok, Err, Result, sym, refl, ap, ◌∙◌, arith, length-append}
 use Rattle.std.proofs.lemmas.List.Edits.{length-remove}
 use Rattle.std.proofs.lemmas.Bool.{ltb-true}
 use Rattle.std.specs.List.{remove}
@@ -8,8 +8,8 @@ use Rattle.words.specs.Refusals.{numbered, bare}
 use Rattle.crdt.specs.declared.kind.Crdt.{Ghosts}
 use Rattle.mailboxes.specs.declared.mailbox.Mailbox.{Ghosts as Boxes}
 use Rattle.mailboxes.specs.Mailboxes.{counted, discard_answer, discard_leaves, read_answer, Kept}
-use Rattle.histories.specs.Clusters.{Cluster, found}
-use Rattle.histories.specs.Calls.{Call, report, send_delta, send_full, sending_delta, sending_full, sent_if, changed_too, appended, fetch, discard, count, fits, peek, number, room_for, Answer, reporting, fetching, done_if, number_if, fetched_if, changed, Step}
+use Rattle.histories.specs.Clusters.{found}
+use Rattle.histories.specs.Calls.{report, send_delta, send_full, sending_delta, sending_full, sent_if, changed_too, appended, fetch, discard, count, fits, peek, number, room_for, Answer, reporting, fetching, done_if, number_if, fetched_if, changed, Step}
 use Rattle.stations.specs.declared.station.Station.{Station}
 use Rattle.stations.specs.Stored.{station_of, cluster_of}
 use Rattle.sends.specs.Sends.{sent_length}

@@ -1,7 +1,6 @@
 use Rattle.std.proofs.Common.{length, Ok, Err, refl, ap, ◌∙◌}
 use Rattle.std.proofs.lemmas.Result.{err_from_is_err_and}
 use Rattle.histories.proofs.Overs.{laws_of}
-use Rattle.stations.specs.Stored.{cluster_of}
 use Rattle.replication.specs.Runs.{asked, told}
 use Rattle.replication.proofs.Refuses.{in_any_case, owed}
 use Rattle.replication.proofs.Steps.{step_report, step_send_delta, step_send_full, step_fetch}
