@@ -1,6 +1,6 @@
 use Rattle.std.proofs.Common.{sym, subst, inl}
 use Rattle.stations.specs.Stored.{cluster_of}
-use Rattle.lustrehem.specs.Rehearsals.{Obeyed}
+use Rattle.lustrehem.specs.Rehearsals.{Delivered, Obeyed}
 use Rattle.lustrehem.proofs.Rehearses.{put_delivers, by_put, by_made, plain_obeyed}
 use Rattle.lustrehem.proofs.cluster.obey.Goals as goal
 
@@ -10,8 +10,10 @@ returns-in-Put g c =
     let P = g.M.Mailbox in
     let y = cluster_of K P c.args.table.now c.args.mailbox.now in
     let z = cluster_of K P c.args.table.now c.put.new.mailbox in
-    let d = put_delivers K P c.args.table.now c.args.mailbox.now c.put.new.mailbox _ c.put.ensures.mailbox c.put.ensures.refused in
-    record { lines = by_put K y z _ d; obeyed = subst (λ x. Obeyed K c.args.script.now.words.items y z x) (sym c.in-Put.is) d }
+    let ws = c.args.script.now.words.items in
+    let d : Delivered y c.as_slice.result.now z = put_delivers K P c.args.table.now c.args.mailbox.now c.put.new.mailbox _ c.put.ensures.mailbox c.put.ensures.refused in
+    let e : Delivered y ws z = subst (λ l. Delivered y l z) c.as_slice.ensures.value d in
+    record { lines = by_put K y z _ e; obeyed = subst (λ x. Obeyed K ws y z x) (sym c.in-Put.is) e }
 
 pub returns-in-Some : goal.returns-in-Some
 returns-in-Some g c =
