@@ -6,6 +6,6 @@ use Rattle.page_mailbox.proofs.PageMailbox.mount.Goals.{in-Ok, in-Err}
 pub invariant_of-result : goal.invariant_of-result
 invariant_of-result c =
     elim c.match-check.branch [
-      | in-Ok w ↦ let a = accepted c.args.bytes.now _ (sym w.in-Ok.ensures.answer) in record { messages = rw w.pages-is a.1; extent = rw w.pages-is (whole_from (length c.args.bytes.now) a.0) }
+      | in-Ok w ↦ let a = accepted c.args.bytes.now _ (sym w.in-Ok.ensures.answer) in record { messages = rw w.pages-is (cc (a.1)); extent = rw w.pages-is (cc (whole_from (length c.args.bytes.now) a.0)) }
       | in-Err w ↦ record { messages = rw w.pages-is refl; extent = rw w.pages-is refl }
     ]
