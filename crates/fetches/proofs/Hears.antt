@@ -3,8 +3,9 @@ use Rattle.std.proofs.Common.{◌≡◌, ℕ, ◌≤◌, min, false, ◌&&◌, e
 use Rattle.std.proofs.lemmas.Bool.{cond-false, le-ltb}
 use Rattle.std.proofs.lemmas.Bool.Decides.{nat_tests}
 use Rattle.crdt.specs.declared.kind.Crdt.{Ghosts}
-use Rattle.counters.specs.declared.vector_clock.VectorClock.{VectorClock}
+use Rattle.counters.specs.declared.counts.Counts.{Counts}
 use Rattle.counters.specs.Counts.{clock_of, larger, only}
+use Rattle.entries.specs.declared.kind.Clock.{Clock as ClockKind}
 use Rattle.words.specs.Readings.{Told}
 use Rattle.wire.specs.Messages.{Message, full, delta, Clock}
 use Rattle.wire.specs.Answers.{unpack_answer, clock_unpacked, record_unpacked}
@@ -17,6 +18,10 @@ use Rattle.histories.proofs.Clocks.{entry_larger}
 use Rattle.fetches.proofs.Raises.{only_most}
 use Rattle.stations.specs.declared.station.Station.{Station}
 use Rattle.stations.specs.Stored.{station_of}
+
+-- a stored clock
+abbrev VectorClock : Type 0
+VectorClock = Counts ClockKind
 
 not_ahead : (i s own t : ℕ) → (i ≡ s → t ≤ own) → (eqb i s && ltb own t) ≡ false
 not_ahead i s own t low = grind (arith, nat_tests)

@@ -56,7 +56,7 @@ module _ {S R : Type 0} (K : Ghosts S R) where
     reporting_done low is = cond-false _ _ _ (lt-leb 65535 _ low) ∙ ap (with_delta K st.number (station_of K st)) is
 
     -- the station as it is stored after it
-    pub reporting_leaves : (own : ℕ) (held pending : S) (sent : ℕ) → length st.clock.counts ≡ 16 → st.number < 16 → own ≡ entry (clock_of st.clock.counts) st.number → own < 65535 → K.value held ≡ K.joined (K.value st.«record») v → K.value pending ≡ K.joined (K.value st.pending) v → sent ≡ min st.sent own → with_delta K st.number (station_of K st) (Ok v) ≡ Ok (station_of K (record { number = st.number; clock = record { counts = set st.clock.counts st.number (own + 1) }; «record» = held; pending = pending; sent = sent }))
+    pub reporting_leaves : (own : ℕ) (held pending : S) (sent : ℕ) → length st.clock.counts ≡ 16 → st.number < 16 → own ≡ entry (clock_of st.clock.counts) st.number → own < 65535 → K.value held ≡ K.joined (K.value st.«record») v → K.value pending ≡ K.joined (K.value st.pending) v → sent ≡ min st.sent own → with_delta K st.number (station_of K st) (Ok v) ≡ Ok (station_of K (record { number = st.number; clock = record st.clock { counts = set st.clock.counts st.number (own + 1) }; «record» = held; pending = pending; sent = sent }))
     reporting_leaves own held pending sent long few is low h p t =
         let xs = st.clock.counts in
         let s = st.number in
