@@ -138,6 +138,7 @@ impl<K: CountKind> Crdt for Counts<K> {
     }
 
     fn join(&mut self, other: &Counts<K>) {
+        // By index: of what a loop over `iter_mut().zip(..)` has written nothing is known after it.
         for (i, theirs) in other.counts.iter().enumerate() {
             let count = K::low(*theirs);
             if K::low(self.counts[i]) < count {

@@ -2,15 +2,15 @@
 use Rattle.std.proofs.Common.{◌≡◌, ℕ, ◌+◌, ◌-◌, ◌%◌, ◌<◌, ◌≤◌, List, [], ◌∷◌, ◌++◌, length, take, drop, set, replicate, Some, None, Ok, Err, Result, sym, refl, ap, ◌∙◌, subst, append_assoc, add-zero, arith, length-drop, length-set, take-append-drop, drop-drop, drop-set-lt, take-add}
 use Rattle.std.proofs.lemmas.List.{take_more_set, take-replicate, drop-replicate}
 use Rattle.words.specs.declared.reader.Reader.{Reader}
-use Rattle.words.specs.Readings.{Reading, Told, read, wrong, left, stepped, before, fault_at}
+use Rattle.words.specs.Readings.{Reading, Told, read, wrong, left, stepped, before, fault_at, found_at}
 use Rattle.words.specs.Words.{index}
 use Rattle.words.proofs.Walks.{on, on_stepped, on_before}
 use Rattle.entries.specs.Rows.{row_of}
-use Rattle.entries.specs.Entries.{examined, answered_at, later, scan, as_row, row_reading}
+use Rattle.entries.specs.Entries.{examined, later, scan, as_row, row_reading}
 use Rattle.entries.proofs.Scans.{entry_is, scan_by}
 
 -- a word whose answer is a fault
-pub refused : {X : Type 0} (r : Reader) (x : Result X ℕ) (t : Told) → Err t ≡ answered_at r x → (n : ℕ) × (x ≡ Err n) × (t ≡ fault_at r n)
+pub refused : {X : Type 0} (r : Reader) (x : Result X ℕ) (t : Told) → Err t ≡ found_at r x → (n : ℕ) × (x ≡ Err n) × (t ≡ fault_at r n)
 refused {X} r (Err n) t e = (n, refl, (let same : t ≡ fault_at r n = cc in same))
 refused {X} r (Ok i) t e = let z : ◌≡◌ {A = ℕ} 0 1 = cc in absurd (omega arith)
 

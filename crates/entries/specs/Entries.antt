@@ -4,11 +4,9 @@
 --     entries k s ns               the words of those of ns that are not 0, the first of ns being entry s
 --     row_written k v              the words of a row
 --     examined k top low seen w    what word w is after seen entries, all below number low: an entry with its number, the end, or a refusal
---     answered_at r x              what reader r answers of a word at its place that is x
 --     row_reading k top ws         the row at the front of words
 use Rattle.std.specs.Prelude.{◌≡◌, ℕ, ◌+◌, ◌-◌, ◌*◌, ◌%◌, ◌^◌, cond, ◌&&◌, List, [], ◌∷◌, ◌++◌, length, replicate, Some, None, Option, Ok, Err, Result, ◌==◌, nat_le, nat_lt}
-use Rattle.words.specs.declared.reader.Reader.{Reader}
-use Rattle.words.specs.Readings.{Reading, Told, read, wrong, fault_at}
+use Rattle.words.specs.Readings.{Reading, read, wrong}
 use Rattle.words.specs.Words.{kind, index, formed, word_of}
 use Rattle.entries.specs.Rows.{Row, row_of}
 
@@ -37,10 +35,6 @@ examined k top low seen w =
     (cond (kind w == k)
     (cond (formed w && (nat_le low (index w) && nat_lt 0 (w % (top + 1)))) (Ok (Some (index w, w % (top + 1)))) (Err 11))
     (Err 10))
-
-abbrev pub answered_at : {X : Type 0} → Reader → Result X ℕ → Result X Told
-answered_at r (Ok x) = Ok x
-answered_at r (Err n) = Err (fault_at r n)
 
 -- numbers before those that are read
 abbrev pub later : List ℕ → Reading (List ℕ) → Reading (List ℕ)

@@ -1,8 +1,8 @@
 -- What the words of an entry need of their kind and of the largest number: the one place where these are looked at. Lemmas, for the kinds of src/kind.rt. Assumes nothing.
-use Rattle.std.proofs.Common.{◌≡◌, ℕ, ◌+◌, ◌/◌, ◌%◌, ◌^◌, ◌<◌, ◌≤◌, true, eqb, sym, ap, ◌∙◌, arith, lit<}
+use Rattle.std.proofs.Common.{◌≡◌, ℕ, ◌+◌, ◌/◌, ◌%◌, ◌^◌, ◌<◌, ◌≤◌, true, ap, ◌∙◌, arith, lit<}
 use Rattle.std.proofs.lemmas.Nat.{shr-shr}
-use Rattle.std.proofs.lemmas.Bool.{eq-eqb, eqb-true}
-use Rattle.words.specs.Words.{kind, index, zero_run, formed}
+use Rattle.words.specs.Words.{kind, index, formed}
+use Rattle.words.proofs.Forms.{well_formed, zero_bits}
 use Rattle.entries.specs.Entries.{entry_word, end_word}
 
 pub record Fits (k top : ℕ) : Type 0 where
@@ -11,16 +11,6 @@ pub record Fits (k top : ℕ) : Type 0 where
   pub is_number : (s n : ℕ) → s < 16 → n ≤ top → entry_word k s n % (top + 1) ≡ n
   pub is_formed : (s n : ℕ) → s < 16 → n ≤ top → formed (entry_word k s n) ≡ true
   pub splits : (w : ℕ) → kind w ≡ k → formed w ≡ true → w ≡ entry_word k (index w) (w % (top + 1))
-
--- the form of a word, by its kind
-formed_at : (w k : ℕ) → kind w ≡ k → formed w ≡ eqb (w / 2 ^ (zero_run k).0 % 2 ^ (zero_run k).1) 0
-formed_at w k e = ap (λ j. eqb (w / 2 ^ (zero_run j).0 % 2 ^ (zero_run j).1) 0) e
-
-well_formed : (w k : ℕ) → kind w ≡ k → w / 2 ^ (zero_run k).0 % 2 ^ (zero_run k).1 ≡ 0 → formed w ≡ true
-well_formed w k e z = formed_at w k e ∙ eq-eqb (w / 2 ^ (zero_run k).0 % 2 ^ (zero_run k).1) 0 z
-
-zero_bits : (w k : ℕ) → kind w ≡ k → formed w ≡ true → w / 2 ^ (zero_run k).0 % 2 ^ (zero_run k).1 ≡ 0
-zero_bits w k e f = eqb-true (w / 2 ^ (zero_run k).0 % 2 ^ (zero_run k).1) 0 (sym (formed_at w k e) ∙ f)
 
 pub kind_entry : (k s n : ℕ) → kind (entry_word k s n) ≡ k
 kind_entry k s n = omega arith

@@ -1,8 +1,8 @@
 // One word of a row.
 ghost use Rattle.std.specs.Prelude.{◌≡◌};
 ghost use Rattle.words.specs.Words.{kind_number};
-ghost use Rattle.words.specs.Readings.{told};
-ghost use Rattle.entries.specs.Entries.{examined, answered_at};
+ghost use Rattle.words.specs.Readings.{told, found_at};
+ghost use Rattle.entries.specs.Entries.{examined};
 
 use crate::kind::EntryKind;
 use words::fault::Fault;
@@ -17,7 +17,7 @@ pub(crate) fn examine<K: EntryKind>(
     low: u32,
     seen: u32,
 ) -> Result<Option<(u32, u32)>, Fault>
-    ensures { told result ≡ answered_at reader.now (examined (kind_number K.WORD) K.TOP low seen word.0) }
+    ensures { told result ≡ found_at reader.now (examined (kind_number K.WORD) K.TOP low seen word.0) }
 {
     if word.is(WordKind::End) {
         if word.is_well_formed() && word.0 % 32 == seen {

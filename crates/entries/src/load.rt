@@ -21,6 +21,7 @@ fn fill<K: EntryKind>(row: &mut [u32; 16], reader: &mut Reader) -> Result<usize,
     let mut low: u32 = 0;
     let mut seen: u32 = 0;
     loop {
+        // No `ok_or`: it would make the fault before every word is looked at.
         let Some(word) = reader.look() else {
             return Err(reader.fault(Refusal::Ended));
         };
@@ -41,6 +42,7 @@ pub fn load<K: EntryKind>(row: &mut [u32; 16], reader: &mut Reader) -> Result<us
     ensures row { row_of K.TOP row.new ≡ read_or (empty K.TOP) (row_reading (kind_number K.WORD) K.TOP (left reader.old)) }
     ensures reader { reader.new ≡ before reader.old (rest (row_reading (kind_number K.WORD) K.TOP (left reader.old))) }
 {
+    // Not by `inspect_err`: it does not say that what its closure captures stays where nothing is refused.
     let answer = fill::<K>(row, reader);
     if answer.is_err() {
         *row = [0; 16];

@@ -110,6 +110,7 @@ pub fn diagnose(bytes: &[u8]) -> Option<Diagnosis>
     ensures foreign { IfSome result (λ d. Foreign bytes.now d.fault.place (number_of d.fault.refusal) d.foreign) }
     ensures turned { TurnedFound bytes.now (option_map told_diagnosis result) }
 {
+    // A match: under `map` the closure would have to ask for what is known of the fault here.
     match PageMailbox::check(bytes) {
         Ok(_) => None,
         Err(fault) => match fault.refusal {

@@ -6,12 +6,11 @@ use Rattle.std.proofs.lemmas.Bool.{and_parts, and_from, eq-eqb, ne_eqb, eqb-true
 use Rattle.std.proofs.lemmas.Bool.Decides.{nat_tests}
 use Rattle.words.specs.Words.{kind, formed, zero_run}
 use Rattle.words.specs.Writes.{put}
-use Rattle.words.specs.Refusals.{value_or}
 use Rattle.words.specs.Readings.{Told}
 use Rattle.mailboxes.specs.Mailboxes.{sized}
 use Rattle.layouts.specs.Rows.{head, sized_from, sized_true}
 use Rattle.layouts.specs.Pages.{le_bytes, be_bytes, bytes_of, word_at, page_of, page_closed}
-use Rattle.layouts.specs.Mounts.{all_zero, well, full, wrong, page_check, mount_next, mount_pages, paged, mount_check, mounted_pages, pages_sound, whole, ForeignRefused}
+use Rattle.layouts.specs.Mounts.{all_zero, well, full, wrong, page_check, mount_next, mount_pages, paged, mount_check, pages_sound, whole, ForeignRefused}
 use Rattle.layouts.proofs.PageBytes.{length_bytes_of, page_head, page_size}
 
 -- zero bytes
@@ -357,13 +356,6 @@ accepted bs held e = by (paged (length bs)) refl e
         let i : q.0 ≡ held = omega (arith, q.1) in
         (is, ap (λ x. pages_sound (length bs / 512) x bs) (sym i) ∙ q.2)
     by false is e = let z : ◌≡◌ {A = ℕ} 0 1 = cc in absurd (omega arith)
-
-pub mounted_ok : (bs : List ℕ) → (pages_sound (mounted_pages (mount_check bs) (length bs)) (value_or 0 (mount_check bs)) bs ≡ true) × (whole (mounted_pages (mount_check bs) (length bs)) (length bs) ≡ true)
-mounted_ok bs = by (mount_check bs) refl
-  where
-    by : (r : Result ℕ Told) → mount_check bs ≡ r → (pages_sound (mounted_pages r (length bs)) (value_or 0 r) bs ≡ true) × (whole (mounted_pages r (length bs)) (length bs) ≡ true)
-    by (Ok held) e = let a = accepted bs held e in (a.1, whole_from (length bs) a.0)
-    by (Err f) e = (refl, refl)
 
 pub accepts : (pages held : ℕ) (bs : List ℕ) → (pages ≡ 0 → ⊥) → whole pages (length bs) ≡ true → pages_sound pages held bs ≡ true → (mount_check bs ≡ Ok held) × (length bs / 512 ≡ pages)
 accepts pages held bs ne w e =

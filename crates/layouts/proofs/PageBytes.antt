@@ -4,7 +4,7 @@ use native.Mathlib.Nat.{div-div-eq-div-mul}
 use borrow.Rule.Slice.PartMut.{put_mid}
 use Rattle.std.specs.Int.{w32, from_le_bytes}
 use Rattle.std.specs.Simd.{first_chunks}
-use Rattle.std.proofs.lemmas.List.{append-nil, length-append, length-take-le, length-drop, drop-drop, take_at, drop_at, length-replicate, drop-replicate, take_more, get_or-drop, get_or-take}
+use Rattle.std.proofs.lemmas.List.{append-nil, length-append, length-take-le, drop-drop, take_at, drop_at, length-replicate, drop-replicate, take_more, get_or-drop, get_or-take}
 use Rattle.layouts.specs.Rows.{head}
 use Rattle.layouts.specs.Pages.{le_bytes, bytes_of, words_of, word_at, page_length, page_message, page_of}
 

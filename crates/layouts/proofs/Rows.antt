@@ -2,10 +2,10 @@
 use Rattle.std.proofs.Common.{◌≡◌, ℕ, zero, suc, ◌+◌, ◌-◌, ◌%◌, ◌<◌, ◌≤◌, Bool, true, ◌&&◌, ltb, leb, List, [], ◌∷◌, ◌++◌, length, get_or, take, drop, set, sym, refl, ap, ◌∙◌, append_assoc, arith, drop-cons}
 use lib.Seq.{take-append_seam, drop-append_seam, paste}
 use Rattle.std.specs.List.{remove, AllByRecursion}
-use Rattle.std.proofs.lemmas.List.{append-nil, length-append, length-take-le, length-drop, take-append-drop, get_or_at, get_or-take, get_or-drop, take-take, take_more, drop_at, take_at, length-set, take_more_set, take_all, drop-take, take-set-le}
+use Rattle.std.proofs.lemmas.List.{append-nil, length-append, length-take-le, length-drop, take-append-drop, get_or_at, get_or-take, take-take, take_more, drop_at, take_at, length-set, take_more_set, take_all, drop-take}
 use borrow.Rule.Slice.PartMut.{put_mid}
 use Rattle.std.proofs.lemmas.Slice.{put_mid-paste}
-use Rattle.std.proofs.lemmas.List.Edits.{take-paste, drop-paste, paste_more, length-remove}
+use Rattle.std.proofs.lemmas.List.Edits.{take-paste, length-remove}
 use Rattle.std.proofs.lemmas.Bool.{and_parts, and_from, leb-true, le-leb, cond-true, le-ltb, lt-ltb, eq-eqb}
 use Rattle.mailboxes.specs.Mailboxes.{Message, sized, counted}
 use Rattle.layouts.specs.Rows.{head, laid, parsed, sound, row_takes, row_put, row_discard, sized_from, sound_parsed}

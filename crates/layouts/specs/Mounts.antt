@@ -13,7 +13,7 @@
 --     wiped bs               what a wipe leaves of bytes
 --     pages_sound n held bs  n pages: held of messages, and then zero bytes
 --     whole pages n          pages are none, or those that n bytes are
-use Rattle.std.specs.Prelude.{◌≡◌, ℕ, zero, suc, ◌+◌, ◌*◌, ◌/◌, ◌%◌, ◌≤◌, Bool, true, false, cond, not, ◌&&◌, ◌||◌, List, [], ◌∷◌, length, take, drop, replicate, Ok, Err, Result, ◌==◌, nat_le}
+use Rattle.std.specs.Prelude.{◌≡◌, ℕ, zero, suc, ◌+◌, ◌*◌, ◌/◌, ◌%◌, ◌≤◌, Bool, true, false, cond, not, ◌&&◌, ◌||◌, List, length, take, drop, replicate, Ok, Err, Result, ◌==◌, nat_le}
 use Rattle.std.specs.List.{list_all}
 use Rattle.words.specs.declared.fault.Layer.TheVariants.{Mailbox}
 use Rattle.words.specs.Words.{kind, formed}

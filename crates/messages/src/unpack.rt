@@ -28,6 +28,7 @@ pub fn unpack<C: Crdt>(
     ensures exact { IfOk result (λ h. words.now ≡ packed C.Crdt (message_of h (clock_of clock.new.counts) (C.Crdt.value «record».new))) }
     ensures law { OneToOne C.Crdt }
 {
+    // Not by `inspect_err`: it does not say that what its closure captures stays where nothing is refused.
     let answer = read_all(words, clock, record);
     if answer.is_err() {
         *clock = VectorClock::bottom();

@@ -86,6 +86,7 @@ impl Crdt for GSet {
         ensures value { members_of self.new.bits ≡ union (members_of self.old.bits) (members_of other.now.bits) }
         ensures members { Unites (members_of self.old.bits) (members_of other.now.bits) (members_of self.new.bits) }
     {
+        // By index: of what a loop over `iter_mut().zip(..)` has written nothing is known after it.
         for (i, theirs) in other.bits.iter().enumerate() {
             self.bits[i] |= *theirs;
         }

@@ -7,9 +7,9 @@ use Rattle.words.specs.declared.refusal.Refusal.{Refusal}
 use Rattle.words.specs.Refusals.{numbered, bare}
 use Rattle.crdt.specs.declared.kind.Crdt.{Ghosts}
 use Rattle.mailboxes.specs.declared.mailbox.Mailbox.{Ghosts as Boxes}
-use Rattle.mailboxes.specs.Mailboxes.{counted, discard_answer, discard_leaves, read_answer, Kept}
+use Rattle.mailboxes.specs.Mailboxes.{counted, discard_answer, discard_leaves, Kept}
 use Rattle.histories.specs.Clusters.{found}
-use Rattle.histories.specs.Calls.{report, send_delta, send_full, sending_delta, sending_full, sent_if, changed_too, appended, fetch, discard, count, fits, peek, number, room_for, Answer, reporting, fetching, done_if, number_if, fetched_if, changed, Step}
+use Rattle.histories.specs.Calls.{report, send_delta, send_full, sending_delta, sending_full, sent_if, changed_too, appended, fetch, discard, Answer, reporting, fetching, done_if, number_if, fetched_if, changed, Step}
 use Rattle.stations.specs.declared.station.Station.{Station}
 use Rattle.stations.specs.Stored.{station_of, cluster_of}
 use Rattle.sends.specs.Sends.{sent_length}
@@ -82,13 +82,3 @@ module _ {S R M : Type 0} (K : Ghosts S R) (P : Boxes M) where
   step_send_delta ts after was is s room r e table leaves kept =
       let x = sending_delta K (P.takes was) s room (found K (map (station_of K) ts) s) in
       record { answer = ap number_if e ∙ number_sent x; stations = table; waiting = leaves; takes = λ same. ap P.takes (sent_kept (P.waiting was) x r was is e kept (sym (ap length leaves) ∙ same)) }
-
-  module _ (ts : List (Station S)) (m : M) where
-    pub step_count : (n : ℕ) → n ≡ counted (P.waiting m) → Step K (cluster_of K P ts m) count (number n) (cluster_of K P ts m)
-    step_count n e = record { answer = ap number e; stations = refl; waiting = refl; takes = λ _. refl }
-
-    pub step_fits : (n : ℕ) (b : Bool) → b ≡ P.takes m n → Step K (cluster_of K P ts m) (fits n) (room_for b) (cluster_of K P ts m)
-    step_fits n b e = record { answer = ap room_for e; stations = refl; waiting = refl; takes = λ _. refl }
-
-    pub step_peek : (k room : ℕ) (r : Result ℕ Refusal) → numbered r ≡ read_answer (P.waiting m) k room → Step K (cluster_of K P ts m) (peek k room) (number_if (numbered r)) (cluster_of K P ts m)
-    step_peek k room r e = record { answer = ap number_if e; stations = refl; waiting = refl; takes = λ _. refl }

@@ -18,6 +18,7 @@ impl WordMailbox<'_> {
         requires { k ≤ self.now.held }
         ensures { result ≡ length (laid (take k (waiting_of self.now))) }
     {
+        // A loop: each place is where the message before it ends, and a fold's closure does not know that it is within the words.
         let mut place = 0;
         for _i in 0..k {
             place += (self.words[place] % 256) as usize + 1;

@@ -45,8 +45,8 @@ abbrev pub found : ℕ → List ℕ → Result ℕ ℕ
 found k [] = Err 12
 found k (w ∷ ws) = cond (kind w == k) (cond (formed w) (Ok w) (Err 11)) (Err 10)
 
-abbrev pub found_at : Reader → Result ℕ ℕ → Result ℕ Told
-found_at r (Ok w) = Ok w
+abbrev pub found_at : {X : Type 0} → Reader → Result X ℕ → Result X Told
+found_at r (Ok x) = Ok x
 found_at r (Err n) = Err (fault_at r n)
 
 abbrev pub word_read : Result Word Fault → Result ℕ Told

@@ -43,7 +43,7 @@ pub enum Refusal {
 }
 
 impl Refusal {
-    // Its number, from 1 to 16.
+    // Its number, from 1 to 16. A method: `u32::from(refusal)` would not say which number.
     pub fn number(self) -> u32
         ensures { result ≡ number_of self }
     {

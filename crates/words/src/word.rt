@@ -21,7 +21,7 @@ pub enum WordKind {
 }
 
 impl WordKind {
-    // Its number, below 16.
+    // Its number, below 16. A method: `u32::from(kind)` would not say which number.
     pub fn number(self) -> u32
         ensures value { result ≡ kind_number self }
         ensures bound { result < 16 }
