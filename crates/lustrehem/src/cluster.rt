@@ -8,7 +8,7 @@ ghost use Rattle.replication.specs.Runs.{asked as meant};
 
 use crate::record::{RecordOf, Recorded};
 use crate::script::Script;
-use crate::show::{Answered, ClockOf, Found, PutOf, RefusedAs, order_name};
+use crate::show::{Answered, Counts, Found, PutOf, RefusedAs, order_name};
 use crate::store::Imaged;
 use mailboxes::mailbox::Mailbox;
 use replication::call::Call;
@@ -180,7 +180,7 @@ fn show<C: Recorded, W: Write>(
         return refuse(out, command, refusal);
     }
     let station = &table[s];
-    let clock = ClockOf(&station.clock);
+    let clock = Counts::of(|s| station.clock.count(s));
     let record = RecordOf(&station.record);
     let sent = match station.unsent() {
         Some(span) => span.from,

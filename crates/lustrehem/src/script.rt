@@ -26,27 +26,16 @@ pub(crate) struct Script<'a> {
     pub(crate) words: [u32; 255],
 }
 
-// The place of the first newline, or the end.
-fn end_of_line(text: &[u8]) -> usize
-    ensures { result ≤ length text.now }
-{
-    for (i, byte) in text.iter().enumerate() {
-        if *byte == b'\n' {
-            return i;
-        }
-    }
-    text.len()
-}
-
 // Whether a line asks for the image.
 fn wants_image(command: Command) -> bool {
-    match command {
-        Command::Mailbox(MailboxShape::One(store)) => store == Store::Image,
-        Command::Mailbox(MailboxShape::Overflow(first, second)) => {
-            first == Store::Image || second == Store::Image
-        }
-        _ => false,
-    }
+    matches!(
+        command,
+        Command::Mailbox(
+            MailboxShape::One(Store::Image)
+                | MailboxShape::Overflow(Store::Image, _)
+                | MailboxShape::Overflow(_, Store::Image)
+        )
+    )
 }
 
 impl<'a> Script<'a> {
@@ -66,15 +55,11 @@ impl<'a> Script<'a> {
         if self.text.is_empty() {
             return None;
         }
-        let text = self.text;
-        let end = end_of_line(text);
+        let mut parts = self.text.splitn(2, |byte| *byte == b'\n');
+        let line = parts.next()?;
         self.line = self.line.saturating_add(1);
-        self.text = if end < text.len() {
-            &text[end + 1..]
-        } else {
-            &text[end..]
-        };
-        Some(&text[0..end])
+        self.text = parts.next().unwrap_or(&[]);
+        Some(line)
     }
 
     // The next line that asks for something. Lines before it that are not understood are named.
