@@ -2,6 +2,7 @@
 use std::alloc::AllocError;
 use std::io;
 use thiserror::Error;
+use words::refusal::Refusal;
 
 #[derive(Debug, Drop, Error)]
 pub(crate) enum Failure {
@@ -40,6 +41,6 @@ pub(crate) enum Unfit {
     #[error("the file has more than {0} bytes")]
     Large(usize),
     // It is not made of pages of 512 bytes.
-    #[error("refused, 16 (wrong memory size): the file is no multiple of 512 bytes")]
+    #[error("refused, {}: the file is no multiple of 512 bytes", Refusal::Memory)]
     NotPages,
 }

@@ -1,5 +1,5 @@
 // What is done with a card image after the calls.
-use crate::show::{Found, Hex, RefusedAs};
+use crate::show::Hex;
 use anyhow::anyhow;
 use cards::card_record::CardRecord;
 use crdt::kind::Crdt;
@@ -22,9 +22,7 @@ pub(crate) fn list_messages<W: Write>(out: &mut W, image: &mut [u8; 4096]) -> an
 
 fn show_message<M: Mailbox, W: Write>(out: &mut W, mailbox: &M, k: usize) -> anyhow::Result<()> {
     let mut words = [0; 127];
-    let n = mailbox
-        .read(k, &mut words)
-        .map_err(|refusal| anyhow!("message {k}: {}", RefusedAs(refusal)))?;
+    let n = mailbox.read(k, &mut words)?;
     let message = Hex::<u32, 8>(&words[..n.min(127)]);
     writeln!(out, "  message {k}: {message}")?;
     Ok(())
@@ -52,9 +50,7 @@ pub(crate) fn damaged_copy<W: Write>(
         Err(fault) => writeln!(
             out,
             "a damaged copy: station {}, message {}: {}",
-            fault.station,
-            fault.message,
-            Found(fault.fault)
+            fault.station, fault.message, fault.fault
         )?,
     }
     Ok(())
@@ -68,7 +64,7 @@ pub(crate) fn other_order<W: Write>(out: &mut W, image: &mut [u8; 4096]) -> anyh
             out,
             "the image in the other byte order has {count} messages"
         )?,
-        Err(fault) => writeln!(out, "the image in the other byte order: {}", Found(fault))?,
+        Err(fault) => writeln!(out, "the image in the other byte order: {fault}")?,
     }
     Ok(())
 }

@@ -2,7 +2,7 @@
 use crate::failure::Failure;
 use crate::files::PAGE;
 use crate::record::{RecordOf, Recorded};
-use crate::show::{Counts, Found};
+use crate::show::Counts;
 use counters::vector_clock::VectorClock;
 use crdt::kind::Crdt;
 use images::diagnose::diagnose;
@@ -33,8 +33,7 @@ pub(crate) fn inspect<C: Recorded, W: Write>(
             Ok(())
         }
         Err(fault) => {
-            let found = Found(fault);
-            writeln!(out, "{name}: refused, {found}")?;
+            writeln!(out, "{name}: refused, {fault}")?;
             explain(out, bytes)?;
             Err(Failure::Image)
         }
@@ -48,8 +47,7 @@ fn list<C: Recorded, M: Mailbox, W: Write>(out: &mut W, mailbox: &M) -> io::Resu
         match read_message::<C, M>(mailbox, k) {
             Ok(message) => writeln!(out, "message {k}: {message}")?,
             Err(fault) => {
-                let found = Found(fault);
-                writeln!(out, "message {k}: refused, {found}")?;
+                writeln!(out, "message {k}: refused, {fault}")?;
                 refused = refused.saturating_add(1);
             }
         }

@@ -1,6 +1,7 @@
 // How the program prints words, counts, answers and faults.
 ghost use Rattle.std.specs.Iterator.{IsFinite};
 
+use crate::record::{RecordOf, Recorded};
 use cards::card_record::CardReport;
 use counters::clock_order::ClockOrder;
 use counters::g_counter::GCounter;
@@ -9,9 +10,8 @@ use registers::gset::GSet;
 use replication::answer::Answer;
 use replication::call::Call;
 use scripts::command::Command;
+use stations::station::Station;
 use std::{array, fmt};
-use words::fault::{Fault, Layer};
-use words::refusal::Refusal;
 
 // Items with a separator between them, each as `show` writes it.
 pub(crate) fn separated<W, I, F>(
@@ -154,19 +154,9 @@ impl fmt::Display for AnswerOf<'_> {
             Answer::Number(n) => write!(f, "{n}"),
             Answer::Fits(true) => write!(f, "yes"),
             Answer::Fits(false) => write!(f, "no"),
-            Answer::Refused(refusal) => write!(f, "{}", RefusedAs(refusal)),
-            Answer::Faulted(fault) => write!(f, "refused, {}", Found(fault.fault)),
+            Answer::Refused(refusal) => write!(f, "refused, {refusal}"),
+            Answer::Faulted(fault) => write!(f, "refused, {}", fault.fault),
         }
-    }
-}
-
-// A refusal: its number and meaning.
-#[derive(Clone, Copy)]
-pub(crate) struct RefusedAs(pub(crate) Refusal);
-
-impl fmt::Display for RefusedAs {
-    fn fmt<W: fmt::Write>(&self, f: &mut fmt::Formatter<W>) -> fmt::Result {
-        write!(f, "refused, {} ({})", self.0.number(), meaning_of(self.0))
     }
 }
 
@@ -216,49 +206,17 @@ pub(crate) fn order_name(order: ClockOrder) -> &'static str {
     }
 }
 
-// A fault: its number and meaning, its place and its layer.
+// A station, as a script shows it.
 #[derive(Clone, Copy)]
-pub(crate) struct Found(pub(crate) Fault);
+pub(crate) struct StationOf<'a, C>(pub(crate) &'a Station<C>);
 
-impl fmt::Display for Found {
+impl<C: Recorded> fmt::Display for StationOf<'_, C> {
     fn fmt<W: fmt::Write>(&self, f: &mut fmt::Formatter<W>) -> fmt::Result {
-        let number = self.0.refusal.number();
-        let meaning = meaning_of(self.0.refusal);
-        write!(
-            f,
-            "{number} ({meaning}) at {}, layer {}",
-            self.0.place,
-            layer_name(self.0.layer)
-        )
-    }
-}
-
-fn meaning_of(refusal: Refusal) -> &'static str {
-    match refusal {
-        Refusal::Station => "no such station",
-        Refusal::Range => "out of range",
-        Refusal::Limit => "past its limit",
-        Refusal::Spent => "all reports made",
-        Refusal::Nothing => "nothing to send",
-        Refusal::Room => "too few words",
-        Refusal::Long => "too long",
-        Refusal::Full => "does not fit",
-        Refusal::Absent => "no such message",
-        Refusal::Kind => "wrong kind",
-        Refusal::Form => "wrong form",
-        Refusal::Ended => "words ended",
-        Refusal::Length => "wrong length",
-        Refusal::Gap => "gap before it",
-        Refusal::Ahead => "ahead of the receiver",
-        Refusal::Memory => "wrong memory size",
-    }
-}
-
-fn layer_name(layer: Layer) -> &'static str {
-    match layer {
-        Layer::Record => "record",
-        Layer::Message => "message",
-        Layer::Mailbox => "mailbox",
-        Layer::Station => "station",
+        let station = self.0;
+        let clock = Counts::of(|s| station.clock.count(s));
+        let record = RecordOf(&station.record);
+        let own = station.clock.count(station.number);
+        let sent = station.unsent().map_or(own, |span| span.from);
+        write!(f, "clock {clock}, {record}, sent {sent}")
     }
 }
