@@ -35,10 +35,10 @@ pub(crate) struct Opening {
 // Why a cluster takes nothing: its table or its mailbox is refused.
 #[derive(Clone, Copy, Debug, Error)]
 pub(crate) enum Unready {
-    #[error("{0}")]
-    Table(#[from] Refusal),
-    #[error("{0}")]
-    Mailbox(#[from] Fault),
+    #[error(transparent)]
+    Table(Refusal),
+    #[error(transparent)]
+    Mailbox(Fault),
 }
 
 // Carries out lines up to one that makes another cluster, which it answers. The last clause is the whole promise of histories, for lines

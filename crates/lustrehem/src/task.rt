@@ -31,7 +31,7 @@ pub(crate) fn run<W: Write>(heap: Global, out: &mut W) -> anyhow::Result<()> {
     )?;
     let calls = calls();
     let mut image = [0u8; 4096];
-    let mut stations = [blank(), blank(), blank()];
+    let mut stations = [blank(); 3];
     history(
         heap,
         &mut stations,

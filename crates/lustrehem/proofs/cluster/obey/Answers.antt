@@ -1,4 +1,4 @@
-use Rattle.std.proofs.Common.{◌≡◌, ◌-◌, min, take, sym, subst, inl, arith}
+use Rattle.std.proofs.Common.{◌≡◌, min, take, sym, subst, inl, arith}
 use Rattle.stations.specs.Stored.{cluster_of}
 use Rattle.lustrehem.specs.Rehearsals.{Delivered, Obeyed}
 use Rattle.lustrehem.proofs.Rehearses.{put_delivers, by_put, by_made, plain_obeyed}
@@ -11,8 +11,8 @@ returns-in-Put g c =
     let ws = c.args.script.now.words in
     let y = cluster_of K P c.args.table.now c.args.mailbox.now in
     let z = cluster_of K P c.args.table.now c.put.new.mailbox in
-    let n : c.min-len.result - 0 ≡ min c.in-Put.len 255 = omega (arith, c.min-len.ensures) in
-    let d : Delivered y (take (c.min-len.result - 0) ws) z = put_delivers K P c.args.table.now c.args.mailbox.now c.put.new.mailbox _ c.put.ensures.mailbox c.put.ensures.refused in
+    let n : c.min-len.result ≡ min c.in-Put.len 255 = omega (arith, c.min-len.ensures) in
+    let d : Delivered y (take c.min-len.result ws) z = put_delivers K P c.args.table.now c.args.mailbox.now c.put.new.mailbox _ c.put.ensures.mailbox c.put.ensures.refused in
     let e : Delivered y (take (min c.in-Put.len 255) ws) z = subst (λ k. Delivered y (take k ws) z) n d in
     record { lines = by_put K y z _ e; obeyed = subst (λ x. Obeyed K ws y z x) (sym c.in-Put.is) e }
 
