@@ -1,4 +1,3 @@
-use Rattle.std.proofs.Common.{length}
 use denote.Text.{Utf8}
 use denote.Param.Always.{always_mut}
 use denote.Shadow.{shadow}
