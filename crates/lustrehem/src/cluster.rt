@@ -56,6 +56,7 @@ pub(crate) fn serve<C: Recorded, M: Imaged, W: Write>(
         announce(script.out, opening, mailbox)?;
     }
     let mut words = [0; 127];
+    // A count, since a loop has to end: no text has more lines.
     for _ in 0..usize::MAX {
         match script.next()? {
             Some(command @ (Command::Record(_) | Command::Stations(_) | Command::Mailbox(_))) =>

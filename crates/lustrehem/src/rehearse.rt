@@ -116,12 +116,12 @@ fn begin<C: Recorded, W: Write>(
     asked: Option<Command>,
 ) -> Result<Option<Command>, Failure> {
     let mut table = vec![in heap; blank::<C>(); settings.stations]?;
+    let image = script.image;
     let (first, second) = parts(settings.shape);
-    let low = Memory::of(heap, first, script.image)?;
-    let high = match second {
-        Some(store) => Some(Memory::of(heap, store, script.image)?),
-        None => None,
-    };
+    let low = Memory::of(heap, first, image)?;
+    let high = second
+        .map(|store| Memory::of(heap, store, image))
+        .transpose()?;
     let made = init(&mut table);
     let checked = low
         .check()
