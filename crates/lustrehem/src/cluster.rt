@@ -119,17 +119,15 @@ fn obey<C: Recorded, M: Imaged, W: Write>(
             put(script.out, mailbox, &script.words[..len])
         }
         Command::Show { station } => {
-            tell(
-                script.out,
-                command,
-                station_at(table, station).map(StationOf),
-            )
+            let station = station_at(table, station).map(StationOf);
+            tell(script.out, command, station)
         }
         Command::Compare { left, right } => {
             let order = compare(table, left, right).map(order_name);
             tell(script.out, command, order)
         }
         Command::Image => mailbox.print_image(script.out),
+        // A match: of a closure under map_or the contract would not see what the call changes.
         _ => match plain(command) {
             Some(asked) => make(script.out, command, table, mailbox, &asked, words),
             None => Ok(()),

@@ -114,6 +114,7 @@ fn explain<W: Write>(out: &mut W, bytes: &[u8]) -> io::Result<()> {
     Ok(())
 }
 
+// A function: the type is another crate's.
 fn cause_name(cause: Cause) -> &'static str {
     match cause {
         Cause::Kind => "the head is of another kind",

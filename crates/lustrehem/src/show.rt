@@ -196,7 +196,7 @@ impl fmt::Display for Answered<'_> {
     }
 }
 
-// How one clock stands to another.
+// How one clock stands to another. A function: the type is another crate's.
 pub(crate) fn order_name(order: ClockOrder) -> &'static str {
     match order {
         ClockOrder::Same => "same",

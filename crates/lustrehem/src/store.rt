@@ -39,6 +39,7 @@ impl<A: Imaged, B: Imaged> Imaged for Overflow<A, B> {
 
 // Lines of 16 bytes. Lines of zero bytes that follow one another are one line.
 fn print_rows<W: Write>(out: &mut W, bytes: &[u8]) -> io::Result<()> {
+    // A count of zero bytes that are not printed yet: they are one line with those that follow.
     let mut zeros = 0usize;
     for (i, row) in bytes.chunks(ROW).enumerate() {
         let place = i.saturating_mul(ROW);
