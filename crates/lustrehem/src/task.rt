@@ -36,7 +36,7 @@ pub(crate) fn run<W: Write>(heap: Global, out: &mut W) -> anyhow::Result<()> {
         heap,
         &mut stations,
         PageMailbox::wipe(&mut image),
-        &calls[..NOON],
+        &calls[0..NOON],
     )?;
     writeln!(out, "by noon, after {NOON} calls:")?;
     decide(out, &stations[0])?;
