@@ -6,50 +6,63 @@ ghost use Rattle.stations.specs.Stored.{cluster_of};
 ghost use Rattle.lustrehem.specs.Rehearsals.{Rehearsed, RehearsalPromised, Made, Obeyed, plain_of};
 ghost use Rattle.replication.specs.Runs.{asked as meant};
 
-use crate::record::{RecordOf, Recorded};
+use crate::record::Recorded;
 use crate::script::Script;
-use crate::show::{Answered, ClockOf, Found, PutOf, RefusedAs, order_name};
+use crate::show::{Answered, PutOf, StationOf, order_name};
 use crate::store::Imaged;
+use counters::clock_order::ClockOrder;
+use crdt::kind::Crdt;
 use mailboxes::mailbox::Mailbox;
 use replication::call::Call;
 use replication::perform::perform;
 use scripts::command::Command;
 use stations::station::Station;
 use stations::table::find;
+use std::fmt::Display;
 use std::io;
 use std::io::Write;
+use thiserror::Error;
 use words::fault::Fault;
 use words::refusal::Refusal;
 
-// What came of making a cluster: of its table, and of the check of its mailbox.
+// A line that made a cluster, and what came of it.
 #[derive(Clone, Copy)]
 pub(crate) struct Opening {
-    pub(crate) asked: Option<Command>,
-    pub(crate) table: Result<(), Refusal>,
-    pub(crate) mailbox: Result<(), Fault>,
+    pub(crate) asked: Command,
+    pub(crate) ready: Result<(), Unready>,
+}
+
+// Why a cluster takes nothing: its table or its mailbox is refused.
+#[derive(Clone, Copy, Debug, Error)]
+pub(crate) enum Unready {
+    #[error(transparent)]
+    Table(Refusal),
+    #[error(transparent)]
+    Mailbox(Fault),
 }
 
 // Carries out lines up to one that makes another cluster, which it answers. The last clause is the whole promise of histories, for lines
 // that put no words, from a fresh cluster on.
 pub(crate) fn serve<C: Recorded, M: Imaged, W: Write>(
-    out: &mut W,
-    script: &mut Script,
-    opening: Opening,
+    script: &mut Script<W>,
+    opening: Option<Opening>,
     table: &mut [Station<C>],
     mailbox: &mut M,
 ) -> io::Result<Option<Command>>
     ensures lines { Rehearsed C.Crdt (cluster_of C.Crdt M.Mailbox table.old mailbox.old) (cluster_of C.Crdt M.Mailbox table.new mailbox.new) }
     ensures promised { RehearsalPromised C.Crdt }
 {
-    announce(out, opening, mailbox)?;
+    if let Some(opening) = opening {
+        announce(script.out, opening, mailbox)?;
+    }
     let mut words = [0; 127];
+    // A count, since a loop has to end: no text has more lines.
     for _ in 0..usize::MAX {
-        match script.next(out)? {
+        match script.next()? {
+            Some(command @ (Command::Record(_) | Command::Stations(_) | Command::Mailbox(_))) =>
+                return Ok(Some(command)),
+            Some(command) => obey(script, command, table, mailbox, &mut words)?,
             None => return Ok(None),
-            Some(Command::Record(kind)) => return Ok(Some(Command::Record(kind))),
-            Some(Command::Stations(count)) => return Ok(Some(Command::Stations(count))),
-            Some(Command::Mailbox(shape)) => return Ok(Some(Command::Mailbox(shape))),
-            Some(command) => obey(out, script, command, table, mailbox, &mut words)?,
         }
     }
     Ok(None)
@@ -57,27 +70,30 @@ pub(crate) fn serve<C: Recorded, M: Imaged, W: Write>(
 
 // Answers the line that made the cluster.
 fn announce<M: Mailbox, W: Write>(out: &mut W, opening: Opening, mailbox: &M) -> io::Result<()> {
-    let Some(command) = opening.asked else {
-        return Ok(());
-    };
-    match (command, opening.table, opening.mailbox) {
-        (Command::Stations(_), Err(refusal), _) => refuse(out, command, refusal),
-        (Command::Mailbox(_), _, Err(fault)) => {
-            let found = Found(fault);
-            writeln!(out, "{command}: refused, {found}")
+    let Opening { asked, ready } = opening;
+    match (asked, ready) {
+        (Command::Mailbox(_), Ok(())) => {
+            writeln!(out, "{asked}: ready, {} messages", mailbox.count())
         }
-        (Command::Mailbox(_), _, Ok(())) => {
-            let count = mailbox.count();
-            writeln!(out, "{command}: ready, {count} messages")
-        }
-        _ => writeln!(out, "{command}: ready"),
+        _ => tell(out, asked, ready.map(|()| "ready")),
+    }
+}
+
+// What a line asked for, and its answer or refusal.
+fn tell<W: Write, Q: Display + Drop, A: Display + Drop, R: Display + Drop>(
+    out: &mut W,
+    asked: Q,
+    answer: Result<A, R>,
+) -> io::Result<()> {
+    match answer {
+        Ok(answer) => writeln!(out, "{asked}: {answer}"),
+        Err(refusal) => writeln!(out, "{asked}: refused, {refusal}"),
     }
 }
 
 // Carries out a line and prints its answer.
 fn obey<C: Recorded, M: Imaged, W: Write>(
-    out: &mut W,
-    script: &mut Script,
+    script: &mut Script<W>,
     command: Command,
     table: &mut [Station<C>],
     mailbox: &mut M,
@@ -94,16 +110,23 @@ fn obey<C: Recorded, M: Imaged, W: Write>(
         } => match C::reported(what, value) {
             Some(report) => {
                 let asked = Call::Report { station, report };
-                make(out, command, table, mailbox, &asked, words)
+                make(script.out, command, table, mailbox, &asked, words)
             }
-            None => script.misunderstood(out, C::reportable()),
+            None => script.misunderstood(C::reportable()),
         },
-        Command::Put => put(out, mailbox, script.words.as_slice()),
-        Command::Show { station } => show(out, command, table, station),
-        Command::Compare { left, right } => compare(out, command, table, left, right),
-        Command::Image => mailbox.print_image(out),
+        Command::Put => put(script.out, mailbox, script.words.as_slice()),
+        Command::Show { station } => {
+            let station = station_at(table, station).map(StationOf);
+            tell(script.out, command, station)
+        }
+        Command::Compare { left, right } => {
+            let order = compare(table, left, right).map(order_name);
+            tell(script.out, command, order)
+        }
+        Command::Image => mailbox.print_image(script.out),
+        // A match: of a closure under map_or the contract would not see what the call changes.
         _ => match plain(command) {
-            Some(asked) => make(out, command, table, mailbox, &asked, words),
+            Some(asked) => make(script.out, command, table, mailbox, &asked, words),
             None => Ok(()),
         },
     }
@@ -150,56 +173,18 @@ fn put<M: Mailbox, W: Write>(out: &mut W, mailbox: &mut M, words: &[u32]) -> io:
     ensures mailbox { M.Mailbox.waiting mailbox.new ≡ put_leaves (M.Mailbox.takes mailbox.old (length words.now)) (M.Mailbox.waiting mailbox.old) words.now }
     ensures refused { M.Mailbox.takes mailbox.old (length words.now) ≡ false → mailbox.new ≡ mailbox.old }
 {
-    let asked = PutOf(words);
-    match mailbox.put(words) {
-        Ok(()) => writeln!(out, "{asked}: done"),
-        Err(refusal) => {
-            let refused = RefusedAs(refusal);
-            writeln!(out, "{asked}: {refused}")
-        }
-    }
+    let done = mailbox.put(words).map(|()| "done");
+    tell(out, PutOf(words), done)
 }
 
-// A refusal of what a line asks for.
-fn refuse<W: Write>(out: &mut W, command: Command, refusal: Refusal) -> io::Result<()> {
-    let refused = RefusedAs(refusal);
-    writeln!(out, "{command}: {refused}")
-}
-
-// What a station holds.
-fn show<C: Recorded, W: Write>(
-    out: &mut W,
-    command: Command,
-    table: &[Station<C>],
-    s: usize,
-) -> io::Result<()> {
-    if let Err(refusal) = find(table, s) {
-        return refuse(out, command, refusal);
-    }
-    let station = &table[s];
-    let clock = ClockOf(&station.clock);
-    let record = RecordOf(&station.record);
-    let sent = match station.unsent() {
-        Some(span) => span.from,
-        None => station.clock.count(station.number),
-    };
-    writeln!(out, "{command}: clock {clock}, {record}, sent {sent}")
+fn station_at<C: Crdt>(table: &[Station<C>], s: usize) -> Result<&Station<C>, Refusal> {
+    find(table, s)?;
+    Ok(&table[s])
 }
 
 // How the clocks of two stations stand to each other.
-fn compare<C: Recorded, W: Write>(
-    out: &mut W,
-    command: Command,
-    table: &[Station<C>],
-    s: usize,
-    t: usize,
-) -> io::Result<()> {
-    if let Err(refusal) = find(table, s) {
-        return refuse(out, command, refusal);
-    }
-    if let Err(refusal) = find(table, t) {
-        return refuse(out, command, refusal);
-    }
-    let order = order_name(table[s].clock.compare(&table[t].clock));
-    writeln!(out, "{command}: {order}")
+fn compare<C: Crdt>(table: &[Station<C>], s: usize, t: usize) -> Result<ClockOrder, Refusal> {
+    let left = station_at(table, s)?;
+    let right = station_at(table, t)?;
+    Ok(left.clock.compare(&right.clock))
 }

@@ -1,44 +1,12 @@
 // The calls of the day.
-use cards::card_record;
-use cards::card_record::CardReport;
+use cards::card_record::{CardReport, erased, firmware, retired, returned, taken};
 use counters::g_counter::Amount;
 use registers::gset::Member;
 use registers::max_register::Revision;
 use replication::call::Call;
 
-fn erase(station: usize, amount: u32) -> Call<CardReport> {
-    Call::Report {
-        station,
-        report: card_record::erased(Amount(amount)),
-    }
-}
-
-fn spares_taken(station: usize, amount: u32) -> Call<CardReport> {
-    Call::Report {
-        station,
-        report: card_record::taken(Amount(amount)),
-    }
-}
-
-fn spares_returned(station: usize, amount: u32) -> Call<CardReport> {
-    Call::Report {
-        station,
-        report: card_record::returned(Amount(amount)),
-    }
-}
-
-fn retire(station: usize, group: u32) -> Call<CardReport> {
-    Call::Report {
-        station,
-        report: card_record::retired(Member(group)),
-    }
-}
-
-fn see_firmware(station: usize, revision: u32) -> Call<CardReport> {
-    Call::Report {
-        station,
-        report: card_record::firmware(Revision(revision)),
-    }
+fn report(station: usize, report: CardReport) -> Call<CardReport> {
+    Call::Report { station, report }
 }
 
 fn fetch(station: usize, message: usize) -> Call<CardReport> {
@@ -49,16 +17,16 @@ fn fetch(station: usize, message: usize) -> Call<CardReport> {
 // message heals; that one is fetched twice. The first full message of station 1 is overtaken by its second.
 pub(crate) fn calls() -> [Call<CardReport>; 30] {
     [
-        erase(0, 5),
-        erase(0, 2),
+        report(0, erased(Amount(5))),
+        report(0, erased(Amount(2))),
         Call::SendDelta { station: 0 },
         Call::Discard { message: 0 },
-        erase(0, 1),
+        report(0, erased(Amount(1))),
         Call::SendDelta { station: 0 },
-        erase(1, 30),
-        spares_taken(1, 3),
+        report(1, erased(Amount(30))),
+        report(1, taken(Amount(3))),
         Call::SendFull { station: 1 },
-        erase(1, 12),
+        report(1, erased(Amount(12))),
         Call::SendFull { station: 1 },
         fetch(2, 0),
         Call::SendFull { station: 0 },
@@ -68,11 +36,11 @@ pub(crate) fn calls() -> [Call<CardReport>; 30] {
         fetch(0, 2),
         fetch(0, 1),
         fetch(2, 2),
-        erase(2, 19),
-        erase(2, 0),
-        spares_returned(2, 5),
-        retire(2, 17),
-        see_firmware(2, 1041),
+        report(2, erased(Amount(19))),
+        report(2, erased(Amount(0))),
+        report(2, returned(Amount(5))),
+        report(2, retired(Member(17))),
+        report(2, firmware(Revision(1041))),
         Call::SendFull { station: 2 },
         Call::Count,
         Call::Fits { len: 127 },

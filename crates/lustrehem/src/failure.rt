@@ -1,80 +1,46 @@
 // Why the program ends with status 1.
 use std::alloc::AllocError;
-use std::{fmt, io};
+use std::io;
+use thiserror::Error;
+use words::refusal::Refusal;
 
-#[derive(Drop)]
+#[derive(Debug, Drop, Error)]
 pub(crate) enum Failure {
-    // The arguments are none that it knows.
+    #[error("unknown arguments; lustrehem --help lists what there is")]
     Usage,
     // A file that is no script or no card image.
+    #[error("{0}: {1}")]
     File(String, Unfit),
     // So many lines of the script were not understood.
+    #[error("{0} {were} not understood", were = if *.0 == 1 {"line was"} else {"lines were"})]
     NotUnderstood(usize),
     // The check of the image refused it.
+    #[error("the image is refused")]
     Image,
     // So many messages of the image were refused.
+    #[error("{0} {are} refused", are = if *.0 == 1 {"message is"} else {"messages are"})]
     Messages(usize),
     // The built-in task was not carried out.
-    Task(anyhow::Error),
-    // Want of memory, or standard input or output failed.
-    System(io::Error),
+    #[error(transparent)]
+    Task(#[from] anyhow::Error),
+    #[error("out of memory")]
+    Memory(#[from] AllocError),
+    // Standard input or output failed.
+    #[error(transparent)]
+    System(#[from] io::Error),
 }
 
 // What is wrong with a file.
-#[derive(Drop)]
+#[derive(Debug, Drop, Error)]
 pub(crate) enum Unfit {
-    Unreadable(io::Error),
+    #[error(transparent)]
+    Unreadable(#[from] io::Error),
+    #[error("the file is empty")]
     Empty,
     // It has more bytes than this.
+    #[error("the file has more than {0} bytes")]
     Large(usize),
     // It is not made of pages of 512 bytes.
+    #[error("refused, {}: the file is no multiple of 512 bytes", Refusal::Memory)]
     NotPages,
-}
-
-impl From<io::Error> for Failure {
-    fn from(error: io::Error) -> Failure {
-        Failure::System(error)
-    }
-}
-
-impl From<anyhow::Error> for Failure {
-    fn from(error: anyhow::Error) -> Failure {
-        Failure::Task(error)
-    }
-}
-
-impl From<AllocError> for Failure {
-    fn from(error: AllocError) -> Failure {
-        Failure::System(io::Error::from(error))
-    }
-}
-
-impl fmt::Display for Failure {
-    fn fmt<W: fmt::Write>(&self, f: &mut fmt::Formatter<W>) -> fmt::Result {
-        match self {
-            Failure::Usage => write!(f, "unknown arguments; lustrehem --help lists what there is"),
-            Failure::File(name, unfit) => write!(f, "{name}: {unfit}"),
-            Failure::NotUnderstood(1) => write!(f, "1 line was not understood"),
-            Failure::NotUnderstood(lines) => write!(f, "{lines} lines were not understood"),
-            Failure::Image => write!(f, "the image is refused"),
-            Failure::Messages(1) => write!(f, "1 message is refused"),
-            Failure::Messages(count) => write!(f, "{count} messages are refused"),
-            Failure::Task(error) => write!(f, "{error}"),
-            Failure::System(error) => write!(f, "{error}"),
-        }
-    }
-}
-
-impl fmt::Display for Unfit {
-    fn fmt<W: fmt::Write>(&self, f: &mut fmt::Formatter<W>) -> fmt::Result {
-        match self {
-            Unfit::Unreadable(error) => write!(f, "{error}"),
-            Unfit::Empty => write!(f, "the file is empty"),
-            Unfit::Large(most) => write!(f, "the file has more than {most} bytes"),
-            Unfit::NotPages => write!(
-                f,
-                "refused, 16 (wrong memory size): the file is no multiple of 512 bytes"
-            ),
-        }
-    }
 }

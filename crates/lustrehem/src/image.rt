@@ -1,5 +1,5 @@
 // What is done with a card image after the calls.
-use crate::show::{Found, Hex};
+use crate::show::Hex;
 use anyhow::anyhow;
 use cards::card_record::CardRecord;
 use crdt::kind::Crdt;
@@ -9,6 +9,7 @@ use mailboxes::mailbox::Mailbox;
 use page_mailbox::PageMailbox;
 use stations::station::Station;
 use std::io::Write;
+use words::refusal::Refusal;
 
 // The words of each message that waits.
 pub(crate) fn list_messages<W: Write>(out: &mut W, image: &mut [u8; 4096]) -> anyhow::Result<()> {
@@ -21,38 +22,36 @@ pub(crate) fn list_messages<W: Write>(out: &mut W, image: &mut [u8; 4096]) -> an
 
 fn show_message<M: Mailbox, W: Write>(out: &mut W, mailbox: &M, k: usize) -> anyhow::Result<()> {
     let mut words = [0; 127];
-    let n = mailbox.read(k, &mut words).unwrap_or(0);
-    if n <= 127 {
-        let message = Hex(&words[0..n]);
-        writeln!(out, "  message {k}: {message}")?;
-    }
+    let n = mailbox.read(k, &mut words)?;
+    let message = Hex::<u32, 8>(&words[..n.min(127)]);
+    writeln!(out, "  message {k}: {message}")?;
     Ok(())
 }
 
-// A copy of the last message with one bit turned over, put beside the others and fetched.
+// A copy of the last message with one bit turned over, put beside the others.
+fn put_damaged<M: Mailbox>(mailbox: &mut M) -> Result<(), Refusal> {
+    let mut words = [0; 127];
+    let n = mailbox.read(4, &mut words)?.min(127);
+    words[1] ^= 0x0001_0000;
+    mailbox.put(&words[..n])
+}
+
+// A damaged copy of a message is fetched.
 pub(crate) fn damaged_copy<W: Write>(
     out: &mut W,
     stations: &mut [Station<CardRecord>],
     image: &mut [u8; 4096],
 ) -> anyhow::Result<()> {
     let mut mailbox = PageMailbox::mount(image);
+    put_damaged(&mut mailbox).map_err(|_| anyhow!("no room for a damaged copy"))?;
     let mut words = [0; 127];
-    let n = mailbox.read(4, &mut words).unwrap_or(0);
-    words[1] ^= 0x0001_0000;
-    if n > 127 || mailbox.put(&words[0..n]).is_err() {
-        return Err(anyhow!("no room for a damaged copy"));
-    }
     match fetch(stations, &mailbox, 1, 5, &mut words) {
         Ok(n) => writeln!(out, "a damaged copy was taken as {n} words")?,
-        Err(fault) => {
-            let station = fault.station;
-            let message = fault.message;
-            let found = Found(fault.fault);
-            writeln!(
-                out,
-                "a damaged copy: station {station}, message {message}: {found}"
-            )?;
-        }
+        Err(fault) => writeln!(
+            out,
+            "a damaged copy: station {}, message {}: {}",
+            fault.station, fault.message, fault.fault
+        )?,
     }
     Ok(())
 }
@@ -65,10 +64,7 @@ pub(crate) fn other_order<W: Write>(out: &mut W, image: &mut [u8; 4096]) -> anyh
             out,
             "the image in the other byte order has {count} messages"
         )?,
-        Err(fault) => {
-            let found = Found(fault);
-            writeln!(out, "the image in the other byte order: {found}")?;
-        }
+        Err(fault) => writeln!(out, "the image in the other byte order: {fault}")?,
     }
     Ok(())
 }

@@ -2,7 +2,8 @@
 use crate::failure::Failure;
 use crate::files::PAGE;
 use crate::record::{RecordOf, Recorded};
-use crate::show::{ClockOf, Found};
+use crate::show::Counts;
+use counters::vector_clock::VectorClock;
 use crdt::kind::Crdt;
 use images::diagnose::diagnose;
 use images::diagnosis::Cause;
@@ -10,8 +11,9 @@ use mailboxes::mailbox::Mailbox;
 use messages::header::Header;
 use messages::unpack::unpack;
 use page_mailbox::PageMailbox;
-use std::io;
 use std::io::Write;
+use std::{fmt, io};
+use words::fault::Fault;
 
 // Says what is on the image of that name, where records are of kind C.
 pub(crate) fn inspect<C: Recorded, W: Write>(
@@ -31,8 +33,7 @@ pub(crate) fn inspect<C: Recorded, W: Write>(
             Ok(())
         }
         Err(fault) => {
-            let found = Found(fault);
-            writeln!(out, "{name}: refused, {found}")?;
+            writeln!(out, "{name}: refused, {fault}")?;
             explain(out, bytes)?;
             Err(Failure::Image)
         }
@@ -43,46 +44,54 @@ pub(crate) fn inspect<C: Recorded, W: Write>(
 fn list<C: Recorded, M: Mailbox, W: Write>(out: &mut W, mailbox: &M) -> io::Result<usize> {
     let mut refused = 0usize;
     for k in 0..usize::from(mailbox.count()) {
-        let mut words = [0; 127];
-        let n = mailbox.read(k, &mut words).unwrap_or(0).min(127);
-        if !describe::<C, W>(out, k, &words[0..n])? {
-            refused = refused.saturating_add(1);
+        match read_message::<C, M>(mailbox, k) {
+            Ok(message) => writeln!(out, "message {k}: {message}")?,
+            Err(fault) => {
+                writeln!(out, "message {k}: refused, {fault}")?;
+                refused = refused.saturating_add(1);
+            }
         }
     }
     Ok(refused)
 }
 
-// One message. Answers whether it is a message of this record kind.
-fn describe<C: Recorded, W: Write>(out: &mut W, k: usize, words: &[u32]) -> io::Result<bool> {
-    let mut clock = <counters::vector_clock::VectorClock as Crdt>::bottom();
-    let mut content = C::bottom();
-    let header = match unpack(words, &mut clock, &mut content) {
-        Ok(header) => header,
-        Err(fault) => {
-            let found = Found(fault);
-            writeln!(out, "message {k}: refused, {found}")?;
-            return Ok(false);
-        }
-    };
-    let content = RecordOf(&content);
-    match header {
-        Header::Full { sender } => {
-            let clock = ClockOf(&clock);
-            writeln!(
-                out,
-                "message {k}: full of station {sender}, clock {clock}, {content}"
-            )?;
-        }
-        Header::Delta { sender, span } => {
-            let from = span.from;
-            let to = span.to;
-            writeln!(
-                out,
-                "message {k}: delta of station {sender}, from {from} to {to}, {content}"
-            )?;
+// A message of a record kind.
+#[derive(Clone, Copy)]
+struct Message<C> {
+    header: Header,
+    clock: VectorClock,
+    record: C,
+}
+
+// Message k, where it is one of this record kind.
+fn read_message<C: Crdt, M: Mailbox>(mailbox: &M, k: usize) -> Result<Message<C>, Fault> {
+    let mut words = [0; 127];
+    let n = mailbox.read(k, &mut words).unwrap_or(0).min(127);
+    let mut clock = <VectorClock as Crdt>::bottom();
+    let mut record = C::bottom();
+    let header = unpack(&words[0..n], &mut clock, &mut record)?;
+    Ok(Message {
+        header,
+        clock,
+        record,
+    })
+}
+
+impl<C: Recorded> fmt::Display for Message<C> {
+    fn fmt<W: fmt::Write>(&self, f: &mut fmt::Formatter<W>) -> fmt::Result {
+        let record = RecordOf(&self.record);
+        match self.header {
+            Header::Full { sender } => {
+                let clock = Counts::of(|station| self.clock.count(station));
+                write!(f, "full of station {sender}, clock {clock}, {record}")
+            }
+            Header::Delta { sender, span } => write!(
+                f,
+                "delta of station {sender}, from {} to {}, {record}",
+                span.from, span.to
+            ),
         }
     }
-    Ok(true)
 }
 
 // Which byte is wrong, and whether the other byte order is the likely cause.
@@ -90,9 +99,12 @@ fn explain<W: Write>(out: &mut W, bytes: &[u8]) -> io::Result<()> {
     let Some(diagnosis) = diagnose(bytes) else {
         return Ok(());
     };
-    let byte = diagnosis.byte;
-    let cause = cause_name(diagnosis.cause);
-    writeln!(out, "byte {byte}: {cause}")?;
+    writeln!(
+        out,
+        "byte {}: {}",
+        diagnosis.byte,
+        cause_name(diagnosis.cause)
+    )?;
     if diagnosis.foreign {
         writeln!(
             out,
@@ -102,6 +114,7 @@ fn explain<W: Write>(out: &mut W, bytes: &[u8]) -> io::Result<()> {
     Ok(())
 }
 
+// A function: the type is another crate's.
 fn cause_name(cause: Cause) -> &'static str {
     match cause {
         Cause::Kind => "the head is of another kind",

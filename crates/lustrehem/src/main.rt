@@ -25,6 +25,7 @@ use crate::inspect::inspect;
 use crate::rehearse::rehearse;
 use cards::card_record::CardRecord;
 use cards::loan_record::LoanRecord;
+use scripts::record_kind::RecordKind;
 use std::env;
 use std::io::{BufWriter, Write};
 use std::process::ExitCode;
@@ -52,7 +53,7 @@ fn choose<W: Write>(rt: &HostRuntime, out: &mut W) -> Result<(), Failure> {
     let mut args = env::args(rt)?;
     let _program = args.next();
     let Some(mode) = args.next() else {
-        return Ok(task::run(out)?);
+        return Ok(task::run(rt.alloc(), out)?);
     };
     match (mode.as_str(), args.next(), args.next(), args.next()) {
         ("--help", None, None, None) => Ok(writeln!(out, "{HELP}")?),
@@ -82,19 +83,19 @@ fn run_inspect<W: Write>(
     name: &str,
     kind: Option<String>,
 ) -> Result<(), Failure> {
-    let loan = match &kind {
-        None => false,
-        Some(kind) => {
-            if kind.as_str() != "card" && kind.as_str() != "loan" {
-                return Err(Failure::Usage);
-            }
-            kind.as_str() == "loan"
-        }
-    };
+    let kind = record_kind(kind.as_deref())?;
     let mut bytes = load_image(rt, name)?;
-    if loan {
-        inspect::<LoanRecord, W>(out, name, &mut bytes)
-    } else {
-        inspect::<CardRecord, W>(out, name, &mut bytes)
+    match kind {
+        RecordKind::Card => inspect::<CardRecord, W>(out, name, &mut bytes),
+        RecordKind::Loan => inspect::<LoanRecord, W>(out, name, &mut bytes),
+    }
+}
+
+// The record kind of an inspection.
+fn record_kind(name: Option<&str>) -> Result<RecordKind, Failure> {
+    match name {
+        None | Some("card") => Ok(RecordKind::Card),
+        Some("loan") => Ok(RecordKind::Loan),
+        Some(_) => Err(Failure::Usage),
     }
 }

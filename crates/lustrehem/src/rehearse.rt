@@ -1,13 +1,11 @@
 // A run of a script: one cluster after another.
-use crate::cluster::{Opening, serve};
+use crate::cluster::{Opening, Unready, serve};
 use crate::failure::Failure;
 use crate::record::Recorded;
 use crate::script::Script;
-use crate::store::Imaged;
 use cards::card_record::CardRecord;
 use cards::loan_record::LoanRecord;
 use crdt::kind::Crdt;
-use mailboxes::mailbox::Mailbox;
 use mailboxes::overflow::Overflow;
 use page_mailbox::PageMailbox;
 use scripts::command::Command;
@@ -55,22 +53,18 @@ impl Settings {
 // Runs a script. The image is what `mailbox image` mounts; no bytes are none.
 pub(crate) fn rehearse<'a, W: Write>(
     rt: &'a HostRuntime,
-    out: &mut W,
+    out: &'a mut W,
     text: &'a [u8],
-    image: &[u8],
+    image: &'a [u8],
 ) -> Result<(), Failure> {
-    let heap = rt.alloc();
-    let mut script = Script::new(rt, text, !image.is_empty());
+    let mut script = Script::new(rt, out, text, image);
     let mut settings = Settings::first();
     let mut asked = None;
+    // A count, since a loop has to end: each turn but the last reads a line.
     for _ in 0..=text.len() {
         let next = match settings.record {
-            RecordKind::Card => {
-                begin::<CardRecord, W>(heap, out, &mut script, settings, asked, image)?
-            }
-            RecordKind::Loan => {
-                begin::<LoanRecord, W>(heap, out, &mut script, settings, asked, image)?
-            }
+            RecordKind::Card => begin::<CardRecord, W>(rt.alloc(), &mut script, settings, asked)?,
+            RecordKind::Loan => begin::<LoanRecord, W>(rt.alloc(), &mut script, settings, asked)?,
         };
         let Some(command) = next else {
             break;
@@ -81,45 +75,112 @@ pub(crate) fn rehearse<'a, W: Write>(
     script.verdict()
 }
 
-// The memory of a store: words or bytes.
+// The memory of a store.
 #[derive(Drop)]
-struct Memory {
-    words: Vec<u32>,
-    bytes: Vec<u8>,
+enum Memory {
+    Words(Vec<u32>),
+    Pages(Vec<u8>),
 }
 
 impl Memory {
     // All zero, or a copy of the image.
     fn of(heap: Global, store: Store, image: &[u8]) -> Result<Memory, AllocError> {
-        let mut memory = Memory {
-            words: Vec::new(heap),
-            bytes: Vec::new(heap),
-        };
-        match store {
-            Store::Words(count) => memory.words = vec![in heap; 0; count]?,
-            Store::Pages(count) => memory.bytes = vec![in heap; 0; count]?,
-            Store::Image => memory.bytes = image.to_vec(heap)?,
-        }
-        Ok(memory)
+        Ok(match store {
+            Store::Words(count) => Memory::Words(vec![in heap; 0; count]?),
+            Store::Pages(count) => Memory::Pages(vec![in heap; 0; count]?),
+            Store::Image => Memory::Pages(image.to_vec(heap)?),
+        })
     }
 
     // Whether a mailbox can be made of it.
-    fn check(&self, store: Store) -> Result<(), Fault> {
-        match store {
-            Store::Words(_) => WordMailbox::check(&self.words),
-            _ => match PageMailbox::check(&self.bytes) {
-                Ok(_) => Ok(()),
-                Err(fault) => Err(fault),
-            },
+    fn check(&self) -> Result<(), Fault> {
+        match self {
+            Memory::Words(words) => WordMailbox::check(words),
+            Memory::Pages(bytes) => PageMailbox::check(bytes).map(|_| ()),
         }
     }
 }
 
-// The stores of a shape; of one store, no words stand for the second.
-fn parts(shape: MailboxShape) -> (Store, Store) {
+// The stores of a shape.
+fn parts(shape: MailboxShape) -> (Store, Option<Store>) {
     match shape {
-        MailboxShape::One(store) => (store, Store::Words(0)),
-        MailboxShape::Overflow(first, second) => (first, second),
+        MailboxShape::One(store) => (store, None),
+        MailboxShape::Overflow(first, second) => (first, Some(second)),
+    }
+}
+
+// Makes a cluster and carries out lines up to one that makes another, which it answers.
+fn begin<C: Recorded, W: Write>(
+    heap: Global,
+    script: &mut Script<W>,
+    settings: Settings,
+    asked: Option<Command>,
+) -> Result<Option<Command>, Failure> {
+    let mut table = vec![in heap; blank::<C>(); settings.stations]?;
+    let image = script.image;
+    let (first, second) = parts(settings.shape);
+    let low = Memory::of(heap, first, image)?;
+    let high = second
+        .map(|store| Memory::of(heap, store, image))
+        .transpose()?;
+    let made = init(&mut table);
+    let checked = low
+        .check()
+        .and_then(|()| high.as_ref().map_or(Ok(()), Memory::check));
+    let opening = asked.map(|asked| Opening {
+        asked,
+        ready: match asked {
+            Command::Stations(_) => made.map_err(Unready::Table),
+            Command::Mailbox(_) => checked.map_err(Unready::Mailbox),
+            _ => Ok(()),
+        },
+    });
+    Ok(open(script, opening, &mut table, low, high)?)
+}
+
+// Opens the mailbox over its memory, and serves the cluster. Memory that is all zero is mounted as an empty mailbox.
+fn open<C: Recorded, W: Write>(
+    script: &mut Script<W>,
+    opening: Option<Opening>,
+    table: &mut [Station<C>],
+    low: Memory,
+    high: Option<Memory>,
+) -> io::Result<Option<Command>> {
+    match (low, high) {
+        (Memory::Words(mut words), None) => {
+            serve(script, opening, table, &mut WordMailbox::open(&mut words))
+        }
+        (Memory::Pages(mut bytes), None) => {
+            serve(script, opening, table, &mut PageMailbox::mount(&mut bytes))
+        }
+        (Memory::Words(mut words), Some(Memory::Words(mut more))) => {
+            let mut mailbox = Overflow::new(
+                WordMailbox::open(&mut words),
+                WordMailbox::open(&mut more),
+            );
+            serve(script, opening, table, &mut mailbox)
+        }
+        (Memory::Words(mut words), Some(Memory::Pages(mut bytes))) => {
+            let mut mailbox = Overflow::new(
+                WordMailbox::open(&mut words),
+                PageMailbox::mount(&mut bytes),
+            );
+            serve(script, opening, table, &mut mailbox)
+        }
+        (Memory::Pages(mut bytes), Some(Memory::Words(mut words))) => {
+            let mut mailbox = Overflow::new(
+                PageMailbox::mount(&mut bytes),
+                WordMailbox::open(&mut words),
+            );
+            serve(script, opening, table, &mut mailbox)
+        }
+        (Memory::Pages(mut bytes), Some(Memory::Pages(mut more))) => {
+            let mut mailbox = Overflow::new(
+                PageMailbox::mount(&mut bytes),
+                PageMailbox::mount(&mut more),
+            );
+            serve(script, opening, table, &mut mailbox)
+        }
     }
 }
 
@@ -132,116 +193,4 @@ pub(crate) fn blank<C: Crdt>() -> Station<C> {
         pending: C::bottom(),
         sent: 0,
     }
-}
-
-fn blanks<C: Crdt>(heap: Global, count: usize) -> Result<Vec<Station<C>>, AllocError> {
-    let mut table = Vec::new(heap);
-    for _ in 0..count {
-        table.push(blank())?;
-    }
-    Ok(table)
-}
-
-// Makes a cluster and carries out lines up to one that makes another, which it answers.
-fn begin<C: Recorded, W: Write>(
-    heap: Global,
-    out: &mut W,
-    script: &mut Script,
-    settings: Settings,
-    asked: Option<Command>,
-    image: &[u8],
-) -> Result<Option<Command>, Failure> {
-    let mut table = blanks::<C>(heap, settings.stations)?;
-    let (first, second) = parts(settings.shape);
-    let mut low = Memory::of(heap, first, image)?;
-    let mut high = Memory::of(heap, second, image)?;
-    let opening = Opening {
-        asked,
-        table: init(&mut table),
-        mailbox: match low.check(first) {
-            Ok(()) => high.check(second),
-            Err(fault) => Err(fault),
-        },
-    };
-    Ok(open(
-        out,
-        script,
-        opening,
-        &mut table,
-        settings.shape,
-        &mut low,
-        &mut high,
-    )?)
-}
-
-// Opens the mailbox of a shape, and serves the cluster.
-fn open<C: Recorded, W: Write>(
-    out: &mut W,
-    script: &mut Script,
-    opening: Opening,
-    table: &mut [Station<C>],
-    shape: MailboxShape,
-    low: &mut Memory,
-    high: &mut Memory,
-) -> io::Result<Option<Command>> {
-    match shape {
-        MailboxShape::One(Store::Words(_)) => {
-            let mut mailbox = WordMailbox::open(&mut low.words);
-            serve(out, script, opening, table, &mut mailbox)
-        }
-        MailboxShape::One(store) => {
-            let mut mailbox = pages(store, &mut low.bytes);
-            serve(out, script, opening, table, &mut mailbox)
-        }
-        MailboxShape::Overflow(Store::Words(_), second) => {
-            let mailbox = WordMailbox::open(&mut low.words);
-            overflow(out, script, opening, table, mailbox, second, high)
-        }
-        MailboxShape::Overflow(first, second) => {
-            let mailbox = pages(first, &mut low.bytes);
-            overflow(out, script, opening, table, mailbox, second, high)
-        }
-    }
-}
-
-// An image is mounted; other pages are wiped.
-fn pages<'a>(store: Store, bytes: &'a mut [u8]) -> PageMailbox<'a> {
-    match store {
-        Store::Image => PageMailbox::mount(bytes),
-        _ => PageMailbox::wipe(bytes),
-    }
-}
-
-// Opens the second part of an overflow, and serves the cluster.
-fn overflow<C: Recorded, A: Imaged + Drop, W: Write>(
-    out: &mut W,
-    script: &mut Script,
-    opening: Opening,
-    table: &mut [Station<C>],
-    first: A,
-    second: Store,
-    high: &mut Memory,
-) -> io::Result<Option<Command>> {
-    match second {
-        Store::Words(_) => {
-            let other = WordMailbox::open(&mut high.words);
-            both(out, script, opening, table, first, other)
-        }
-        _ => {
-            let other = pages(second, &mut high.bytes);
-            both(out, script, opening, table, first, other)
-        }
-    }
-}
-
-fn both<C: Recorded, A: Imaged + Drop, B: Imaged + Drop, W: Write>(
-    out: &mut W,
-    script: &mut Script,
-    opening: Opening,
-    table: &mut [Station<C>],
-    first: A,
-    second: B,
-) -> io::Result<Option<Command>> {
-    let mut mailbox = Overflow::new(first, second);
-    serve(out, script, opening, table, &mut mailbox)
 }

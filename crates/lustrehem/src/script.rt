@@ -1,6 +1,4 @@
 // The lines of a script, one after another.
-ghost use Rattle.std.specs.Prelude.{◌≤◌, length};
-
 use crate::failure::Failure;
 use arrayvec::ArrayVec;
 use scripts::command::Command;
@@ -12,48 +10,45 @@ use std::{fmt, io};
 // A run of more lines than this says how far it is.
 const MANY: usize = 10_000;
 
+// A script that is carried out, and where its answers go.
 #[derive(Drop)]
-pub(crate) struct Script<'a> {
+pub(crate) struct Script<'a, W> {
     rt: &'a HostRuntime,
+    pub(crate) out: &'a mut W,
     // What is left of it.
     text: &'a [u8],
     // The number of the line that was read last.
     line: usize,
-    // Whether an image was named on the command line.
-    image: bool,
+    // The card image that was named on the command line; no bytes are none.
+    pub(crate) image: &'a [u8],
     // How many lines were not understood.
     wrong: usize,
     // The words of the put that was read last.
     pub(crate) words: ArrayVec<u32, 255>,
 }
 
-// The place of the first newline, or the end.
-fn end_of_line(text: &[u8]) -> usize
-    ensures { result ≤ length text.now }
-{
-    for (i, byte) in text.iter().enumerate() {
-        if *byte == b'\n' {
-            return i;
-        }
-    }
-    text.len()
-}
-
 // Whether a line asks for the image.
 fn wants_image(command: Command) -> bool {
-    match command {
-        Command::Mailbox(MailboxShape::One(store)) => store == Store::Image,
-        Command::Mailbox(MailboxShape::Overflow(first, second)) => {
-            first == Store::Image || second == Store::Image
-        }
-        _ => false,
-    }
+    matches!(
+        command,
+        Command::Mailbox(
+            MailboxShape::One(Store::Image)
+                | MailboxShape::Overflow(Store::Image, _)
+                | MailboxShape::Overflow(_, Store::Image)
+        )
+    )
 }
 
-impl<'a> Script<'a> {
-    pub(crate) fn new(rt: &'a HostRuntime, text: &'a [u8], image: bool) -> Script<'a> {
+impl<'a, W: Write> Script<'a, W> {
+    pub(crate) fn new(
+        rt: &'a HostRuntime,
+        out: &'a mut W,
+        text: &'a [u8],
+        image: &'a [u8],
+    ) -> Script<'a, W> {
         Script {
             rt,
+            out,
             text,
             line: 0,
             image,
@@ -67,19 +62,16 @@ impl<'a> Script<'a> {
         if self.text.is_empty() {
             return None;
         }
-        let text = self.text;
-        let end = end_of_line(text);
+        let mut parts = self.text.splitn(2, |byte| *byte == b'\n');
+        let line = parts.next()?;
         self.line = self.line.saturating_add(1);
-        self.text = if end < text.len() {
-            &text[end + 1..]
-        } else {
-            &text[end..]
-        };
-        Some(&text[0..end])
+        self.text = parts.next().unwrap_or(&[]);
+        Some(line)
     }
 
     // The next line that asks for something. Lines before it that are not understood are named.
-    pub(crate) fn next<W: Write>(&mut self, out: &mut W) -> io::Result<Option<Command>> {
+    pub(crate) fn next(&mut self) -> io::Result<Option<Command>> {
+        // A count, since a loop has to end: each turn but the last reads a line.
         for _ in 0..=self.text.len() {
             let before = self.line;
             let Some(line) = self.next_line() else {
@@ -89,28 +81,22 @@ impl<'a> Script<'a> {
                 eprintln!(self.rt; "lustrehem: {before} lines")?;
             }
             match understand(line, &mut self.words) {
-                Ok(Some(command)) => {
-                    if self.image || !wants_image(command) {
-                        return Ok(Some(command));
-                    }
-                    self.misunderstood(out, "words or pages, since no image was given")?;
+                Ok(Some(command)) if self.image.is_empty() && wants_image(command) => {
+                    self.misunderstood("words or pages, since no image was given")?;
                 }
+                Ok(Some(command)) => return Ok(Some(command)),
                 Ok(None) => {}
-                Err(expected) => self.misunderstood(out, expected)?,
+                Err(expected) => self.misunderstood(expected)?,
             }
         }
         Ok(None)
     }
 
     // Names the line that was read last.
-    pub(crate) fn misunderstood<W: Write, E: fmt::Display + Drop>(
-        &mut self,
-        out: &mut W,
-        expected: E,
-    ) -> io::Result<()> {
+    pub(crate) fn misunderstood<E: fmt::Display + Drop>(&mut self, expected: E) -> io::Result<()> {
         self.wrong = self.wrong.saturating_add(1);
         let line = self.line;
-        writeln!(out, "line {line}: not understood, expected {expected}")
+        writeln!(self.out, "line {line}: not understood, expected {expected}")
     }
 
     // Whether every line was understood.

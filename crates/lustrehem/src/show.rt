@@ -1,45 +1,81 @@
 // How the program prints words, counts, answers and faults.
+ghost use Rattle.std.specs.Iterator.{IsFinite};
+
+use crate::record::{RecordOf, Recorded};
 use cards::card_record::CardReport;
 use counters::clock_order::ClockOrder;
 use counters::g_counter::GCounter;
-use counters::vector_clock::VectorClock;
 use crdt::pair::Side;
 use registers::gset::GSet;
 use replication::answer::Answer;
 use replication::call::Call;
 use scripts::command::Command;
-use std::fmt;
-use words::fault::{Fault, Layer};
-use words::refusal::Refusal;
+use stations::station::Station;
+use std::{array, fmt};
 
-// Words in hexadecimal.
+// Items with a separator between them, each as `show` writes it.
+pub(crate) fn separated<W, I, F>(
+    f: &mut fmt::Formatter<W>,
+    separator: &str,
+    items: I,
+    mut show: F,
+) -> fmt::Result
+where
+    W: fmt::Write,
+    I: Iterator + Drop,
+    I::Item: Drop,
+    F: FnMut(&mut fmt::Formatter<W>, I::Item) -> fmt::Result,
+    requires can { I.can_next items }
+    requires finite { IsFinite (I.remaining items) }
+    requires shows { F.IsAlwaysCallable show }
+{
+    let mut before = "";
+    for item in items {
+        f.write_str(before)?;
+        show(f, item)?;
+        before = separator;
+    }
+    Ok(())
+}
+
+// Words or bytes in so many hexadecimal digits each.
 #[derive(Clone, Copy)]
-pub(crate) struct Hex<'a>(pub(crate) &'a [u32]);
+pub(crate) struct Hex<'a, T, const DIGITS: usize>(pub(crate) &'a [T]);
 
-impl fmt::Display for Hex<'_> {
+impl<T: fmt::Radix + Copy, const DIGITS: usize> fmt::Display for Hex<'_, T, DIGITS> {
     fn fmt<W: fmt::Write>(&self, f: &mut fmt::Formatter<W>) -> fmt::Result {
-        for (i, word) in self.0.iter().enumerate() {
-            if i > 0 {
-                write!(f, " ")?;
-            }
-            write!(f, "{word:08X}")?;
-        }
-        Ok(())
+        separated(
+            f,
+            " ",
+            self.0.iter(),
+            |f, item| write!(f, "{item:0w$X}", w = DIGITS),
+        )
     }
 }
 
-// The counts of a clock that are not 0, by station.
+// Counts that are not 0, by station.
 #[derive(Clone, Copy)]
-pub(crate) struct ClockOf<'a>(pub(crate) &'a VectorClock);
+pub(crate) struct Counts([u32; 16]);
 
-impl fmt::Display for ClockOf<'_> {
+impl Counts {
+    pub(crate) fn of<F: Fn(usize) -> u32>(count: F) -> Counts
+        requires { F.IsAlwaysCallable count }
+    {
+        Counts(array::from_fn(count))
+    }
+}
+
+impl fmt::Display for Counts {
     fn fmt<W: fmt::Write>(&self, f: &mut fmt::Formatter<W>) -> fmt::Result {
-        let mut counts = [0; 16];
-        for station in 0..16 {
-            counts[station] = self.0.count(station);
-        }
-        let counts = CountsOf(&counts);
-        write!(f, "{counts}")
+        let counts = self.0.iter().enumerate().filter(|(_, count)| **count > 0);
+        f.write_str("{")?;
+        separated(
+            f,
+            ", ",
+            counts,
+            |f, (station, count)| write!(f, "{station}:{count}"),
+        )?;
+        f.write_str("}")
     }
 }
 
@@ -49,13 +85,8 @@ pub(crate) struct CounterOf<'a>(pub(crate) &'a GCounter);
 
 impl fmt::Display for CounterOf<'_> {
     fn fmt<W: fmt::Write>(&self, f: &mut fmt::Formatter<W>) -> fmt::Result {
-        let mut counts = [0; 16];
-        for station in 0..16 {
-            counts[station] = self.0.count(station);
-        }
-        let counts = CountsOf(&counts);
-        let total = self.0.total();
-        write!(f, "{counts} total {total}")
+        let counts = Counts::of(|station| self.0.count(station));
+        write!(f, "{counts} total {}", self.0.total())
     }
 }
 
@@ -65,40 +96,10 @@ pub(crate) struct MembersOf<'a>(pub(crate) &'a GSet);
 
 impl fmt::Display for MembersOf<'_> {
     fn fmt<W: fmt::Write>(&self, f: &mut fmt::Formatter<W>) -> fmt::Result {
-        write!(f, "{{")?;
-        let mut any = false;
-        for member in 0..256 {
-            if self.0.contains(member) {
-                if any {
-                    write!(f, ", ")?;
-                }
-                write!(f, "{member}")?;
-                any = true;
-            }
-        }
-        let count = self.0.len();
-        write!(f, "}} count {count}")
-    }
-}
-
-// Counts that are not 0, by station.
-#[derive(Clone, Copy)]
-pub(crate) struct CountsOf<'a>(pub(crate) &'a [u32; 16]);
-
-impl fmt::Display for CountsOf<'_> {
-    fn fmt<W: fmt::Write>(&self, f: &mut fmt::Formatter<W>) -> fmt::Result {
-        write!(f, "{{")?;
-        let mut any = false;
-        for (station, count) in self.0.iter().enumerate() {
-            if *count > 0 {
-                if any {
-                    write!(f, ", ")?;
-                }
-                write!(f, "{station}:{count}")?;
-                any = true;
-            }
-        }
-        write!(f, "}}")
+        let members = (0..256).filter(|member| self.0.contains(*member));
+        f.write_str("{")?;
+        separated(f, ", ", members, |f, member| write!(f, "{member}"))?;
+        write!(f, "}} count {}", self.0.len())
     }
 }
 
@@ -110,8 +111,7 @@ impl fmt::Display for CallOf<'_> {
     fn fmt<W: fmt::Write>(&self, f: &mut fmt::Formatter<W>) -> fmt::Result {
         match *self.0 {
             Call::Report { station, report } => {
-                let report = ReportOf(report);
-                write!(f, "station {station} reports {report}")
+                write!(f, "station {station} reports {}", ReportOf(report))
             }
             Call::SendDelta { station } => write!(f, "station {station} sends a delta"),
             Call::SendFull { station } => write!(f, "station {station} sends all"),
@@ -134,17 +134,11 @@ struct ReportOf(CardReport);
 impl fmt::Display for ReportOf {
     fn fmt<W: fmt::Write>(&self, f: &mut fmt::Formatter<W>) -> fmt::Result {
         match self.0 {
-            Side::Left(blocks) => match blocks {
-                Side::Left(erased) => write!(f, "erased {}", erased.0),
-                Side::Right(spares) => match spares {
-                    Side::Left(taken) => write!(f, "taken {}", taken.0),
-                    Side::Right(returned) => write!(f, "returned {}", returned.0),
-                },
-            },
-            Side::Right(state) => match state {
-                Side::Left(group) => write!(f, "retired {}", group.0),
-                Side::Right(revision) => write!(f, "firmware {}", revision.0),
-            },
+            Side::Left(Side::Left(erased)) => write!(f, "erased {}", erased.0),
+            Side::Left(Side::Right(Side::Left(taken))) => write!(f, "taken {}", taken.0),
+            Side::Left(Side::Right(Side::Right(returned))) => write!(f, "returned {}", returned.0),
+            Side::Right(Side::Left(group)) => write!(f, "retired {}", group.0),
+            Side::Right(Side::Right(revision)) => write!(f, "firmware {}", revision.0),
         }
     }
 }
@@ -160,27 +154,9 @@ impl fmt::Display for AnswerOf<'_> {
             Answer::Number(n) => write!(f, "{n}"),
             Answer::Fits(true) => write!(f, "yes"),
             Answer::Fits(false) => write!(f, "no"),
-            Answer::Refused(refusal) => {
-                let refused = RefusedAs(refusal);
-                write!(f, "{refused}")
-            }
-            Answer::Faulted(fault) => {
-                let found = Found(fault.fault);
-                write!(f, "refused, {found}")
-            }
+            Answer::Refused(refusal) => write!(f, "refused, {refusal}"),
+            Answer::Faulted(fault) => write!(f, "refused, {}", fault.fault),
         }
-    }
-}
-
-// A refusal: its number and meaning.
-#[derive(Clone, Copy)]
-pub(crate) struct RefusedAs(pub(crate) Refusal);
-
-impl fmt::Display for RefusedAs {
-    fn fmt<W: fmt::Write>(&self, f: &mut fmt::Formatter<W>) -> fmt::Result {
-        let number = self.0.number();
-        let meaning = meaning_of(self.0);
-        write!(f, "refused, {number} ({meaning})")
     }
 }
 
@@ -190,11 +166,11 @@ pub(crate) struct PutOf<'a>(pub(crate) &'a [u32]);
 
 impl fmt::Display for PutOf<'_> {
     fn fmt<W: fmt::Write>(&self, f: &mut fmt::Formatter<W>) -> fmt::Result {
-        if self.0.is_empty() {
-            return write!(f, "put");
+        f.write_str("put")?;
+        for word in self.0 {
+            write!(f, " {word:08X}")?;
         }
-        let words = Hex(self.0);
-        write!(f, "put {words}")
+        Ok(())
     }
 }
 
@@ -213,18 +189,14 @@ impl fmt::Display for Answered<'_> {
             (Command::Fetch { .. }, Answer::Number(n)) => write!(f, "{n} words"),
             (_, Answer::Number(n)) => {
                 let n = (*n).min(self.words.len());
-                let words = Hex(&self.words[0..n]);
-                write!(f, "{n} words: {words}")
+                write!(f, "{n} words: {}", Hex::<u32, 8>(&self.words[..n]))
             }
-            _ => {
-                let answer = AnswerOf(self.answer);
-                write!(f, "{answer}")
-            }
+            (_, answer) => write!(f, "{}", AnswerOf(answer)),
         }
     }
 }
 
-// How one clock stands to another.
+// How one clock stands to another. A function: the type is another crate's.
 pub(crate) fn order_name(order: ClockOrder) -> &'static str {
     match order {
         ClockOrder::Same => "same",
@@ -234,46 +206,17 @@ pub(crate) fn order_name(order: ClockOrder) -> &'static str {
     }
 }
 
-// A fault: its number and meaning, its place and its layer.
+// A station, as a script shows it.
 #[derive(Clone, Copy)]
-pub(crate) struct Found(pub(crate) Fault);
+pub(crate) struct StationOf<'a, C>(pub(crate) &'a Station<C>);
 
-impl fmt::Display for Found {
+impl<C: Recorded> fmt::Display for StationOf<'_, C> {
     fn fmt<W: fmt::Write>(&self, f: &mut fmt::Formatter<W>) -> fmt::Result {
-        let number = self.0.refusal.number();
-        let meaning = meaning_of(self.0.refusal);
-        let place = self.0.place;
-        let layer = layer_name(self.0.layer);
-        write!(f, "{number} ({meaning}) at {place}, layer {layer}")
-    }
-}
-
-fn meaning_of(refusal: Refusal) -> &'static str {
-    match refusal {
-        Refusal::Station => "no such station",
-        Refusal::Range => "out of range",
-        Refusal::Limit => "past its limit",
-        Refusal::Spent => "all reports made",
-        Refusal::Nothing => "nothing to send",
-        Refusal::Room => "too few words",
-        Refusal::Long => "too long",
-        Refusal::Full => "does not fit",
-        Refusal::Absent => "no such message",
-        Refusal::Kind => "wrong kind",
-        Refusal::Form => "wrong form",
-        Refusal::Ended => "words ended",
-        Refusal::Length => "wrong length",
-        Refusal::Gap => "gap before it",
-        Refusal::Ahead => "ahead of the receiver",
-        Refusal::Memory => "wrong memory size",
-    }
-}
-
-fn layer_name(layer: Layer) -> &'static str {
-    match layer {
-        Layer::Record => "record",
-        Layer::Message => "message",
-        Layer::Mailbox => "mailbox",
-        Layer::Station => "station",
+        let station = self.0;
+        let clock = Counts::of(|s| station.clock.count(s));
+        let record = RecordOf(&station.record);
+        let own = station.clock.count(station.number);
+        let sent = station.unsent().map_or(own, |span| span.from);
+        write!(f, "clock {clock}, {record}, sent {sent}")
     }
 }

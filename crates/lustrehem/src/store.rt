@@ -1,9 +1,10 @@
 // The bytes of a mailbox's pages, as they are printed.
+use crate::show::Hex;
 use mailboxes::mailbox::Mailbox;
 use mailboxes::overflow::Overflow;
 use page_mailbox::PageMailbox;
+use std::io;
 use std::io::Write;
-use std::{fmt, io};
 use word_mailbox::WordMailbox;
 
 // The bytes of a line.
@@ -38,16 +39,16 @@ impl<A: Imaged, B: Imaged> Imaged for Overflow<A, B> {
 
 // Lines of 16 bytes. Lines of zero bytes that follow one another are one line.
 fn print_rows<W: Write>(out: &mut W, bytes: &[u8]) -> io::Result<()> {
+    // A count of zero bytes that are not printed yet: they are one line with those that follow.
     let mut zeros = 0usize;
     for (i, row) in bytes.chunks(ROW).enumerate() {
         let place = i.saturating_mul(ROW);
-        if is_zero(row) {
+        if row.iter().all(|byte| *byte == 0) {
             zeros = zeros.saturating_add(row.len());
         } else {
             print_zeros(out, place, zeros)?;
             zeros = 0;
-            let row = Row(row);
-            writeln!(out, "  {place:04X}: {row}")?;
+            writeln!(out, "  {place:04X}: {}", Hex::<u8, 2>(row))?;
         }
     }
     print_zeros(out, bytes.len(), zeros)
@@ -59,31 +60,5 @@ fn print_zeros<W: Write>(out: &mut W, end: usize, zeros: usize) -> io::Result<()
         return Ok(());
     }
     let first = end.saturating_sub(zeros);
-    let last = end.saturating_sub(1);
-    writeln!(out, "  {first:04X} to {last:04X}: zero")
-}
-
-fn is_zero(bytes: &[u8]) -> bool {
-    for byte in bytes {
-        if *byte != 0 {
-            return false;
-        }
-    }
-    true
-}
-
-// Bytes in hexadecimal.
-#[derive(Clone, Copy)]
-struct Row<'a>(&'a [u8]);
-
-impl fmt::Display for Row<'_> {
-    fn fmt<W: fmt::Write>(&self, f: &mut fmt::Formatter<W>) -> fmt::Result {
-        for (i, byte) in self.0.iter().enumerate() {
-            if i > 0 {
-                write!(f, " ")?;
-            }
-            write!(f, "{byte:02X}")?;
-        }
-        Ok(())
-    }
+    writeln!(out, "  {first:04X} to {:04X}: zero", end.saturating_sub(1))
 }

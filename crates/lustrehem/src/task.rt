@@ -4,7 +4,7 @@
 use crate::day::calls;
 use crate::image::{damaged_copy, list_messages, other_order};
 use crate::rehearse::blank;
-use crate::show::{AnswerOf, CallOf, ClockOf, CountsOf};
+use crate::show::{AnswerOf, CallOf, Counts};
 use anyhow::anyhow;
 use cards::card_record;
 use cards::card_record::{CardRecord, CardReport};
@@ -15,6 +15,7 @@ use replication::answer::Answer;
 use replication::call::Call;
 use replication::replay::replay;
 use stations::station::Station;
+use std::alloc::Global;
 use std::io::Write;
 
 // How many erased blocks the family is rated for.
@@ -23,15 +24,16 @@ const RATED: u32 = 60;
 // How many calls were made by noon.
 const NOON: usize = 19;
 
-pub(crate) fn run<W: Write>(out: &mut W) -> anyhow::Result<()> {
+pub(crate) fn run<W: Write>(heap: Global, out: &mut W) -> anyhow::Result<()> {
     writeln!(
         out,
         "card family LX-4, rated for {RATED} erased blocks, at three stations"
     )?;
     let calls = calls();
     let mut image = [0u8; 4096];
-    let mut stations = [blank(), blank(), blank()];
+    let mut stations = [blank(); 3];
     history(
+        heap,
         &mut stations,
         PageMailbox::wipe(&mut image),
         &calls[0..NOON],
@@ -39,15 +41,15 @@ pub(crate) fn run<W: Write>(out: &mut W) -> anyhow::Result<()> {
     writeln!(out, "by noon, after {NOON} calls:")?;
     decide(out, &stations[0])?;
     writeln!(out, "the whole day:")?;
-    let answers = history(&mut stations, PageMailbox::wipe(&mut image), &calls)?;
+    let answers = history(heap, &mut stations, PageMailbox::wipe(&mut image), &calls)?;
     list_answers(out, &calls, &answers)?;
     writeln!(
         out,
         "who has fetched a late full message from all others has everything:"
     )?;
-    decide(out, &stations[0])?;
-    decide(out, &stations[1])?;
-    decide(out, &stations[2])?;
+    for station in &stations {
+        decide(out, station)?;
+    }
     writeln!(out, "power is lost; the same bytes are mounted again:")?;
     list_messages(out, &mut image)?;
     damaged_copy(out, &mut stations, &mut image)?;
@@ -56,16 +58,17 @@ pub(crate) fn run<W: Write>(out: &mut W) -> anyhow::Result<()> {
 
 // Runs calls on an empty mailbox, lets the mailbox go, and gives the answers.
 fn history<M: Mailbox + Drop>(
+    heap: Global,
     stations: &mut [Station<CardRecord>],
     mut mailbox: M,
     calls: &[Call<CardReport>],
-) -> anyhow::Result<[Answer; 30]> {
-    let mut answers = [Answer::Done; 30];
+) -> anyhow::Result<Vec<Answer>> {
+    let mut answers = vec![in heap; Answer::Done; calls.len()]?;
     let mut words = [0; 127];
-    match replay(stations, &mut mailbox, calls, &mut answers, &mut words) {
-        Ok(()) => Ok(answers),
-        Err(_) => Err(anyhow!("the calls were not begun")),
-    }
+    replay(stations, &mut mailbox, calls, &mut answers, &mut words).map_err(|_| anyhow!(
+        "the calls were not begun"
+    ))?;
+    Ok(answers)
 }
 
 // Each call with its answer.
@@ -75,9 +78,7 @@ fn list_answers<W: Write>(
     answers: &[Answer],
 ) -> anyhow::Result<()> {
     for (call, answer) in calls.iter().zip(answers.iter()) {
-        let call = CallOf(call);
-        let answer = AnswerOf(answer);
-        writeln!(out, "  {call}: {answer}")?;
+        writeln!(out, "  {}: {}", CallOf(call), AnswerOf(answer))?;
     }
     Ok(())
 }
@@ -85,9 +86,9 @@ fn list_answers<W: Write>(
 // A station says what it holds, and what becomes of the family.
 fn decide<W: Write>(out: &mut W, station: &Station<CardRecord>) -> anyhow::Result<()> {
     let number = station.number;
-    let clock = ClockOf(&station.clock);
+    let clock = Counts::of(|s| station.clock.count(s));
     let card = &station.record;
-    let erased = CountsOf(&card.left.left.counts);
+    let erased = Counts::of(|s| card.left.left.count(s));
     let total = card_record::total_erased(card);
     let net = card_record::net_spares(card);
     let groups = card_record::retired_groups(card);

@@ -1,28 +1,13 @@
-use Rattle.std.proofs.Common.{sym, subst, inl}
 use Rattle.stations.specs.Stored.{cluster_of}
-use Rattle.lustrehem.specs.Rehearsals.{Delivered, Obeyed}
 use Rattle.lustrehem.proofs.Rehearses.{put_delivers, by_put, by_made, plain_obeyed}
 use Rattle.lustrehem.proofs.cluster.obey.Goals as goal
 
-pub returns-in-Put : goal.returns-in-Put
-returns-in-Put g c =
-    let K = g.C.Crdt in
-    let P = g.M.Mailbox in
-    let y = cluster_of K P c.args.table.now c.args.mailbox.now in
-    let z = cluster_of K P c.args.table.now c.put.new.mailbox in
-    let ws = c.args.script.now.words.items in
-    let d : Delivered y c.as_slice.result.now z = put_delivers K P c.args.table.now c.args.mailbox.now c.put.new.mailbox _ c.put.ensures.mailbox c.put.ensures.refused in
-    let e : Delivered y ws z = subst (λ l. Delivered y l z) c.as_slice.ensures.value d in
-    record { lines = by_put K y z _ e; obeyed = subst (λ x. Obeyed K ws y z x) (sym c.in-Put.is) e }
+pub returns-in-Put-clause-lines : goal.returns-in-Put-clause-lines
+returns-in-Put-clause-lines g c =
+    by_put g.C.Crdt _ _ _ (put_delivers g.C.Crdt g.M.Mailbox c.args.table.now c.args.mailbox.now c.put.new.mailbox _ c.put.ensures.mailbox c.put.ensures.refused)
 
-pub returns-in-Some : goal.returns-in-Some
-returns-in-Some g c =
-    let K = g.C.Crdt in
-    let P = g.M.Mailbox in
-    let y = cluster_of K P c.args.table.now c.args.mailbox.now in
-    let z = cluster_of K P c.make.new.table c.make.new.mailbox in
-    let made = c.make.ensures.made in
-    record { lines = by_made K y z _ made; obeyed = subst (λ x. Obeyed K c.args.script.now.words.items y z x) (sym c.in-Report.is) (inl (c.in-Some.report, made)) }
+pub returns-in-Some-clause-lines : goal.returns-in-Some-clause-lines
+returns-in-Some-clause-lines g c = by_made g.C.Crdt _ _ _ c.make.ensures.made
 
 pub returns-in-Some-plain : goal.returns-in-Some-plain
 returns-in-Some-plain g c =
