@@ -10,7 +10,6 @@ use crate::record::Recorded;
 use crate::script::Script;
 use crate::show::{Answered, PutOf, StationOf, order_name};
 use crate::store::Imaged;
-use counters::clock_order::ClockOrder;
 use crdt::kind::Crdt;
 use mailboxes::mailbox::Mailbox;
 use replication::call::Call;
@@ -18,6 +17,7 @@ use replication::perform::perform;
 use scripts::command::Command;
 use stations::station::Station;
 use stations::table::find;
+use std::cmp::Ordering;
 use std::fmt::Display;
 use std::io;
 use std::io::Write;
@@ -183,8 +183,8 @@ fn station_at<C: Crdt>(table: &[Station<C>], s: usize) -> Result<&Station<C>, Re
 }
 
 // How the clocks of two stations stand to each other.
-fn compare<C: Crdt>(table: &[Station<C>], s: usize, t: usize) -> Result<ClockOrder, Refusal> {
+fn compare<C: Crdt>(table: &[Station<C>], s: usize, t: usize) -> Result<Option<Ordering>, Refusal> {
     let left = station_at(table, s)?;
     let right = station_at(table, t)?;
-    Ok(left.clock.compare(&right.clock))
+    Ok(left.clock.partial_cmp(&right.clock))
 }

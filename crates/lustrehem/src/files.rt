@@ -1,5 +1,6 @@
 // Reading scripts and card images.
 use crate::failure::{Failure, Unfit};
+use page_mailbox::bytes::PAGE;
 use std::fs::File;
 use std::io::Read;
 
@@ -8,9 +9,6 @@ const LONGEST: usize = 16_777_216;
 
 // The most bytes of a card image.
 const LARGEST: usize = 65_536;
-
-// The bytes of a page.
-pub(crate) const PAGE: usize = 512;
 
 // A file of 1 to so many bytes, or standard input for "-".
 fn read(rt: &HostRuntime, name: &str, most: usize) -> Result<Vec<u8>, Unfit> {

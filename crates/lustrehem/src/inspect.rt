@@ -1,6 +1,5 @@
 // What is on a card image.
 use crate::failure::Failure;
-use crate::files::PAGE;
 use crate::record::{RecordOf, Recorded};
 use crate::show::Counts;
 use counters::vector_clock::VectorClock;
@@ -11,6 +10,7 @@ use mailboxes::mailbox::Mailbox;
 use messages::header::Header;
 use messages::unpack::unpack;
 use page_mailbox::PageMailbox;
+use page_mailbox::bytes::PAGE;
 use std::io::Write;
 use std::{fmt, io};
 use words::fault::Fault;
@@ -67,7 +67,7 @@ struct Message<C> {
 fn read_message<C: Crdt, M: Mailbox>(mailbox: &M, k: usize) -> Result<Message<C>, Fault> {
     let mut words = [0; 127];
     let n = mailbox.read(k, &mut words).unwrap_or(0).min(127);
-    let mut clock = <VectorClock as Crdt>::bottom();
+    let mut clock = VectorClock::bottom();
     let mut record = C::bottom();
     let header = unpack(&words[0..n], &mut clock, &mut record)?;
     Ok(Message {

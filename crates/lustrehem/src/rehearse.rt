@@ -116,7 +116,7 @@ fn begin<C: Recorded, W: Write>(
     settings: Settings,
     asked: Option<Command>,
 ) -> Result<Option<Command>, Failure> {
-    let mut table = vec![in heap; blank::<C>(); settings.stations]?;
+    let mut table = vec![in heap; Station::<C>::new(0); settings.stations]?;
     let image = script.image;
     let (first, second) = parts(settings.shape);
     let low = Memory::of(heap, first, image)?;
@@ -181,16 +181,5 @@ fn open<C: Recorded, W: Write>(
             );
             serve(script, opening, table, &mut mailbox)
         }
-    }
-}
-
-// A station that is not made fresh yet.
-pub(crate) fn blank<C: Crdt>() -> Station<C> {
-    Station {
-        number: 0,
-        clock: <counters::vector_clock::VectorClock as Crdt>::bottom(),
-        record: C::bottom(),
-        pending: C::bottom(),
-        sent: 0,
     }
 }

@@ -3,14 +3,14 @@ ghost use Rattle.std.specs.Iterator.{IsFinite};
 
 use crate::record::{RecordOf, Recorded};
 use cards::card_record::CardReport;
-use counters::clock_order::ClockOrder;
 use counters::g_counter::GCounter;
-use crdt::pair::Side;
+use either::{Left, Right};
 use registers::gset::GSet;
-use replication::answer::Answer;
+use replication::answer::{Answer, CallError, Reply};
 use replication::call::Call;
 use scripts::command::Command;
 use stations::station::Station;
+use std::cmp::Ordering;
 use std::{array, fmt};
 
 // Items with a separator between them, each as `show` writes it.
@@ -134,11 +134,11 @@ struct ReportOf(CardReport);
 impl fmt::Display for ReportOf {
     fn fmt<W: fmt::Write>(&self, f: &mut fmt::Formatter<W>) -> fmt::Result {
         match self.0 {
-            Side::Left(Side::Left(erased)) => write!(f, "erased {}", erased.0),
-            Side::Left(Side::Right(Side::Left(taken))) => write!(f, "taken {}", taken.0),
-            Side::Left(Side::Right(Side::Right(returned))) => write!(f, "returned {}", returned.0),
-            Side::Right(Side::Left(group)) => write!(f, "retired {}", group.0),
-            Side::Right(Side::Right(revision)) => write!(f, "firmware {}", revision.0),
+            Left(Left(erased)) => write!(f, "erased {}", erased.0),
+            Left(Right(Left(taken))) => write!(f, "taken {}", taken.0),
+            Left(Right(Right(returned))) => write!(f, "returned {}", returned.0),
+            Right(Left(group)) => write!(f, "retired {}", group.0),
+            Right(Right(revision)) => write!(f, "firmware {}", revision.0),
         }
     }
 }
@@ -150,12 +150,12 @@ pub(crate) struct AnswerOf<'a>(pub(crate) &'a Answer);
 impl fmt::Display for AnswerOf<'_> {
     fn fmt<W: fmt::Write>(&self, f: &mut fmt::Formatter<W>) -> fmt::Result {
         match *self.0 {
-            Answer::Done => write!(f, "done"),
-            Answer::Number(n) => write!(f, "{n}"),
-            Answer::Fits(true) => write!(f, "yes"),
-            Answer::Fits(false) => write!(f, "no"),
-            Answer::Refused(refusal) => write!(f, "refused, {refusal}"),
-            Answer::Faulted(fault) => write!(f, "refused, {}", fault.fault),
+            Ok(Reply::Done) => write!(f, "done"),
+            Ok(Reply::Number(n)) => write!(f, "{n}"),
+            Ok(Reply::Fits(true)) => write!(f, "yes"),
+            Ok(Reply::Fits(false)) => write!(f, "no"),
+            Err(CallError::Refused(refusal)) => write!(f, "refused, {refusal}"),
+            Err(CallError::Faulted(fault)) => write!(f, "refused, {}", fault.fault),
         }
     }
 }
@@ -185,9 +185,9 @@ pub(crate) struct Answered<'a> {
 impl fmt::Display for Answered<'_> {
     fn fmt<W: fmt::Write>(&self, f: &mut fmt::Formatter<W>) -> fmt::Result {
         match (self.command, self.answer) {
-            (Command::Count, Answer::Number(n)) => write!(f, "{n}"),
-            (Command::Fetch { .. }, Answer::Number(n)) => write!(f, "{n} words"),
-            (_, Answer::Number(n)) => {
+            (Command::Count, Ok(Reply::Number(n))) => write!(f, "{n}"),
+            (Command::Fetch { .. }, Ok(Reply::Number(n))) => write!(f, "{n} words"),
+            (_, Ok(Reply::Number(n))) => {
                 let n = (*n).min(self.words.len());
                 write!(f, "{n} words: {}", Hex::<u32, 8>(&self.words[..n]))
             }
@@ -197,12 +197,12 @@ impl fmt::Display for Answered<'_> {
 }
 
 // How one clock stands to another. A function: the type is another crate's.
-pub(crate) fn order_name(order: ClockOrder) -> &'static str {
+pub(crate) fn order_name(order: Option<Ordering>) -> &'static str {
     match order {
-        ClockOrder::Same => "same",
-        ClockOrder::Behind => "behind",
-        ClockOrder::Ahead => "ahead",
-        ClockOrder::Sideways => "sideways",
+        Some(Ordering::Equal) => "same",
+        Some(Ordering::Less) => "behind",
+        Some(Ordering::Greater) => "ahead",
+        None => "sideways",
     }
 }
 

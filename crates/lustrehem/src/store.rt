@@ -3,6 +3,7 @@ use crate::show::Hex;
 use mailboxes::mailbox::Mailbox;
 use mailboxes::overflow::Overflow;
 use page_mailbox::PageMailbox;
+use page_mailbox::bytes::is_zero;
 use std::io;
 use std::io::Write;
 use word_mailbox::WordMailbox;
@@ -43,7 +44,7 @@ fn print_rows<W: Write>(out: &mut W, bytes: &[u8]) -> io::Result<()> {
     let mut zeros = 0usize;
     for (i, row) in bytes.chunks(ROW).enumerate() {
         let place = i.saturating_mul(ROW);
-        if row.iter().all(|byte| *byte == 0) {
+        if is_zero(row) {
             zeros = zeros.saturating_add(row.len());
         } else {
             print_zeros(out, place, zeros)?;

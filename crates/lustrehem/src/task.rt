@@ -3,7 +3,6 @@
 // and a damaged copy and an image in the other byte order are refused.
 use crate::day::calls;
 use crate::image::{damaged_copy, list_messages, other_order};
-use crate::rehearse::blank;
 use crate::show::{AnswerOf, CallOf, Counts};
 use anyhow::anyhow;
 use cards::card_record;
@@ -11,7 +10,7 @@ use cards::card_record::{CardRecord, CardReport};
 use cards::verdict::{Verdict, judge};
 use mailboxes::mailbox::Mailbox;
 use page_mailbox::PageMailbox;
-use replication::answer::Answer;
+use replication::answer::{Answer, Reply};
 use replication::call::Call;
 use replication::replay::replay;
 use stations::station::Station;
@@ -31,7 +30,7 @@ pub(crate) fn run<W: Write>(heap: Global, out: &mut W) -> anyhow::Result<()> {
     )?;
     let calls = calls();
     let mut image = [0u8; 4096];
-    let mut stations = [blank(); 3];
+    let mut stations = [Station::new(0); 3];
     history(
         heap,
         &mut stations,
@@ -63,7 +62,7 @@ fn history<M: Mailbox + Drop>(
     mut mailbox: M,
     calls: &[Call<CardReport>],
 ) -> anyhow::Result<Vec<Answer>> {
-    let mut answers = vec![in heap; Answer::Done; calls.len()]?;
+    let mut answers = vec![in heap; Ok(Reply::Done); calls.len()]?;
     let mut words = [0; 127];
     replay(stations, &mut mailbox, calls, &mut answers, &mut words).map_err(|_| anyhow!(
         "the calls were not begun"

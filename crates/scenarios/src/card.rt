@@ -12,7 +12,7 @@ use words::refusal::Refusal;
 
 #[test]
 fn a_card_record_adds_up(rt: HostRuntime) {
-    let mut card: CardRecord = <crdt::pair::Pair<_, _> as Crdt>::bottom();
+    let mut card = CardRecord::bottom();
     assert_eq!(rt;
         report(&mut card, 0, card_record::erased(Amount(5))),
         Ok(())
@@ -44,7 +44,7 @@ fn a_card_record_adds_up(rt: HostRuntime) {
 
 #[test]
 fn card_words(rt: HostRuntime) {
-    let mut card: CardRecord = <crdt::pair::Pair<_, _> as Crdt>::bottom();
+    let mut card = CardRecord::bottom();
     assert_eq!(rt; card.size(), 5);
     assert_eq!(rt;
         report(&mut card, 0, card_record::erased(Amount(7))),
@@ -64,7 +64,7 @@ fn card_words(rt: HostRuntime) {
             0x8000_0000,
         ]
     );
-    let mut into: CardRecord = <crdt::pair::Pair<_, _> as Crdt>::bottom();
+    let mut into = CardRecord::bottom();
     assert_eq!(rt; load(&mut into, &words, 1), Ok(7));
     assert_eq!(rt; card_record::total_erased(&into), 7);
     words[5] = 0x9000_0001;
@@ -74,7 +74,7 @@ fn card_words(rt: HostRuntime) {
 
 #[test]
 fn a_loan_record_adds_up(rt: HostRuntime) {
-    let mut loan: LoanRecord = <crdt::pair::Pair<_, _> as Crdt>::bottom();
+    let mut loan = LoanRecord::bottom();
     assert_eq!(rt; report(&mut loan, 4, loan_record::lent(Amount(2))), Ok(()));
     assert_eq!(rt;
         report(&mut loan, 5, loan_record::marked(Member(12))),
@@ -98,7 +98,7 @@ fn a_family_is_pulled_at_its_rated_cycles(rt: HostRuntime) {
 // Two stored card records that stand for the same value: same size, words, deltas and refusals.
 #[test]
 fn spare_bits_of_a_card_say_nothing(rt: HostRuntime) {
-    let mut clean: CardRecord = <crdt::pair::Pair<_, _> as Crdt>::bottom();
+    let mut clean = CardRecord::bottom();
     clean.left.left.counts[1] = 9;
     clean.right.left.bits[15] = 0x8000;
     clean.right.right.stored = 41;

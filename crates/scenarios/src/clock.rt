@@ -1,13 +1,13 @@
 // A vector clock: ticks, its limit, its words, and how two clocks stand to each other.
 use crate::support::{load, report, wrong};
-use counters::clock_order::ClockOrder;
 use counters::vector_clock::{Tick, VectorClock};
 use crdt::kind::Crdt;
+use std::cmp::Ordering;
 use words::refusal::Refusal;
 
 // The clock with two counts.
 fn clock(zero: u32, one: u32) -> VectorClock {
-    let mut clock: VectorClock = <VectorClock as Crdt>::bottom();
+    let mut clock = VectorClock::bottom();
     clock.counts[0] = zero;
     clock.counts[1] = one;
     clock
@@ -15,18 +15,24 @@ fn clock(zero: u32, one: u32) -> VectorClock {
 
 #[test]
 fn clocks_are_compared(rt: HostRuntime) {
-    assert_eq!(rt; clock(2, 1).compare(&clock(1, 2)), ClockOrder::Sideways);
-    assert_eq!(rt; clock(1, 0).compare(&clock(1, 2)), ClockOrder::Behind);
-    assert_eq!(rt; clock(1, 2).compare(&clock(1, 0)), ClockOrder::Ahead);
-    assert_eq!(rt; clock(1, 2).compare(&clock(1, 2)), ClockOrder::Same);
-    // a stored count stands for its low 16 bits
+    assert_eq!(rt; clock(2, 1).partial_cmp(&clock(1, 2)), None);
+    assert_eq!(rt; clock(1, 0).partial_cmp(&clock(1, 2)), Some(Ordering::Less));
     assert_eq!(rt;
-        clock(0x0001_0001, 2).compare(&clock(1, 2)),
-        ClockOrder::Same
+        clock(1, 2).partial_cmp(&clock(1, 0)),
+        Some(Ordering::Greater)
     );
     assert_eq!(rt;
-        clock(0x0001_0000, 2).compare(&clock(1, 2)),
-        ClockOrder::Behind
+        clock(1, 2).partial_cmp(&clock(1, 2)),
+        Some(Ordering::Equal)
+    );
+    // a stored count stands for its low 16 bits
+    assert_eq!(rt;
+        clock(0x0001_0001, 2).partial_cmp(&clock(1, 2)),
+        Some(Ordering::Equal)
+    );
+    assert_eq!(rt;
+        clock(0x0001_0000, 2).partial_cmp(&clock(1, 2)),
+        Some(Ordering::Less)
     );
 }
 

@@ -8,7 +8,7 @@ use words::refusal::Refusal;
 
 // What a load answers.
 fn load(words: &[u32], place: usize) -> Result<usize, Fault> {
-    let mut counter = <GCounter as Crdt>::bottom();
+    let mut counter = GCounter::bottom();
     support::load(&mut counter, words, place)
 }
 
@@ -18,7 +18,7 @@ fn add(counter: &mut GCounter, station: usize, amount: u32) -> Result<(), Refusa
 
 #[test]
 fn amounts_add_up(rt: HostRuntime) {
-    let mut counter = <GCounter as Crdt>::bottom();
+    let mut counter = GCounter::bottom();
     assert_eq!(rt; add(&mut counter, 0, 5), Ok(()));
     assert_eq!(rt; add(&mut counter, 0, 2), Ok(()));
     assert_eq!(rt; counter.count(0), 7);
@@ -29,7 +29,7 @@ fn amounts_add_up(rt: HostRuntime) {
 
 #[test]
 fn a_delta_holds_one_count(rt: HostRuntime) {
-    let mut counter = <GCounter as Crdt>::bottom();
+    let mut counter = GCounter::bottom();
     assert_eq!(rt; add(&mut counter, 3, 8), Ok(()));
     assert_eq!(rt; add(&mut counter, 4, 1), Ok(()));
     let mut delta = counter;
@@ -45,7 +45,7 @@ fn a_delta_holds_one_count(rt: HostRuntime) {
 
 #[test]
 fn station_is_looked_at_before_amount(rt: HostRuntime) {
-    let mut counter = <GCounter as Crdt>::bottom();
+    let mut counter = GCounter::bottom();
     assert_eq!(rt; add(&mut counter, 0, 0), Err(Refusal::Range));
     assert_eq!(rt; add(&mut counter, 0, 65_536), Err(Refusal::Range));
     assert_eq!(rt; add(&mut counter, 16, 1), Err(Refusal::Station));
@@ -57,9 +57,7 @@ fn station_is_looked_at_before_amount(rt: HostRuntime) {
 
 #[test]
 fn the_limit_is_reached_and_not_passed(rt: HostRuntime) {
-    let mut counter = GCounter {
-        counts: [16_777_214; 16],
-    };
+    let mut counter = GCounter::from([16_777_214; 16]);
     assert_eq!(rt; add(&mut counter, 9, 2), Err(Refusal::Limit));
     assert_eq!(rt; add(&mut counter, 9, 1), Ok(()));
     assert_eq!(rt; counter.count(9), 16_777_215);
@@ -71,10 +69,8 @@ fn the_limit_is_reached_and_not_passed(rt: HostRuntime) {
 // Two stored counters that stand for the same value give the same answers.
 #[test]
 fn spare_bits_say_nothing(rt: HostRuntime) {
-    let clean = GCounter { counts: [7; 16] };
-    let mut spare = GCounter {
-        counts: [0xAB00_0007; 16],
-    };
+    let clean = GCounter::from([7; 16]);
+    let mut spare = GCounter::from([0xAB00_0007; 16]);
     assert_eq!(rt; spare.count(2), 7);
     assert_eq!(rt; spare.total(), clean.total());
     assert_eq!(rt; spare.size(), clean.size());
@@ -94,9 +90,7 @@ fn spare_bits_say_nothing(rt: HostRuntime) {
         spare.delta(16, Amount(1), &mut other),
         Err(Refusal::Station)
     );
-    let full = GCounter {
-        counts: [0x01FF_FFFF; 16],
-    };
+    let full = GCounter::from([0x01FF_FFFF; 16]);
     assert_eq!(rt; full.delta(2, Amount(1), &mut other), Err(Refusal::Limit));
     spare.join(&clean);
     assert_eq!(rt; spare.total(), 112);
@@ -104,7 +98,7 @@ fn spare_bits_say_nothing(rt: HostRuntime) {
 
 #[test]
 fn words_stand_where_they_are_written(rt: HostRuntime) {
-    let mut counter = <GCounter as Crdt>::bottom();
+    let mut counter = GCounter::bottom();
     assert_eq!(rt; counter.size(), 1);
     assert_eq!(rt; add(&mut counter, 1, 4), Ok(()));
     assert_eq!(rt; add(&mut counter, 15, 3), Ok(()));

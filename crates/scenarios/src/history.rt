@@ -2,6 +2,7 @@
 use cards::card_record;
 use cards::card_record::CardRecord;
 use counters::g_counter::Amount;
+use counters::vector_clock::VectorClock;
 use crdt::kind::Crdt;
 use fetches::fault::FetchFault;
 use fetches::fetch::fetch;
@@ -25,9 +26,9 @@ use words::refusal::Refusal;
 fn blank() -> Station<CardRecord> {
     Station {
         number: 9,
-        clock: <counters::vector_clock::VectorClock as Crdt>::bottom(),
-        record: <crdt::pair::Pair<_, _> as Crdt>::bottom(),
-        pending: <crdt::pair::Pair<_, _> as Crdt>::bottom(),
+        clock: VectorClock::bottom(),
+        record: CardRecord::bottom(),
+        pending: CardRecord::bottom(),
         sent: 77,
     }
 }
@@ -196,7 +197,7 @@ fn note(
         return Ok(());
     }
     let what = chosen(seed);
-    let mut delta: CardRecord = <crdt::pair::Pair<_, _> as Crdt>::bottom();
+    let mut delta = CardRecord::bottom();
     let allowed = table[s].record.delta(s, what, &mut delta);
     assert_eq!(rt; report(table, s, what), allowed);
     if allowed.is_ok() {
@@ -212,7 +213,7 @@ fn note(
 
 // The record of a station against the join of the deltas that its clock covers, by their words.
 fn compare(rt: &impl Abort, station: &Station<CardRecord>, log: &Vec<Logged>) {
-    let mut sum: CardRecord = <crdt::pair::Pair<_, _> as Crdt>::bottom();
+    let mut sum = CardRecord::bottom();
     for logged in log.iter() {
         if logged.number <= station.clock.count(logged.station) {
             sum.join(&logged.delta);

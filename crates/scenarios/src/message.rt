@@ -49,8 +49,8 @@ fn damaged(message: [u32; 5], place: usize, word: u32) -> Result<Header, Fault> 
 }
 
 fn answer(words: &[u32]) -> Result<Header, Fault> {
-    let mut clock = <VectorClock as Crdt>::bottom();
-    let mut counter = <GCounter as Crdt>::bottom();
+    let mut clock = VectorClock::bottom();
+    let mut counter = GCounter::bottom();
     unpacked(words, &mut clock, &mut counter)
 }
 
@@ -72,9 +72,9 @@ fn in_record(refusal: Refusal, place: usize) -> Result<Header, Fault> {
 
 #[test]
 fn a_full_message(rt: HostRuntime) {
-    let mut clock: VectorClock = <VectorClock as Crdt>::bottom();
+    let mut clock = VectorClock::bottom();
     clock.counts[1] = 1;
-    let mut counter: GCounter = <GCounter as Crdt>::bottom();
+    let mut counter = GCounter::bottom();
     counter.counts[1] = 30;
     let mut words = [8; 7];
     assert_eq!(rt;
@@ -89,8 +89,8 @@ fn a_full_message(rt: HostRuntime) {
     assert_eq!(rt; pack_full(1, &clock, &counter, &mut words), Ok(5));
     assert_eq!(rt; words[5], 8);
     assert_eq!(rt; words[6], 8);
-    let mut time: VectorClock = <VectorClock as Crdt>::bottom();
-    let mut sum: GCounter = <GCounter as Crdt>::bottom();
+    let mut time = VectorClock::bottom();
+    let mut sum = GCounter::bottom();
     assert_eq!(rt;
         unpacked(&words[0..5], &mut time, &mut sum),
         Ok(Header::Full { sender: 1 })
@@ -107,7 +107,7 @@ fn a_full_message(rt: HostRuntime) {
 
 #[test]
 fn a_delta_message(rt: HostRuntime) -> Result<(), Fail> {
-    let mut counter: GCounter = <GCounter as Crdt>::bottom();
+    let mut counter = GCounter::bottom();
     counter.counts[0] = 7;
     let Some(span) = Span::new(0, 2) else {
         return Err(Fail::new("a span"));
@@ -141,14 +141,13 @@ fn an_opened_message_is_parts_of_its_words(rt: HostRuntime) -> Result<(), Fail> 
         Ok(
             Opened::Delta {
                 sender,
-                from,
-                to,
+                span,
                 record,
             },
         ) => {
             assert_eq!(rt; sender, 0);
-            assert_eq!(rt; from, 0);
-            assert_eq!(rt; to, 2);
+            assert_eq!(rt; span.from, 0);
+            assert_eq!(rt; span.to, 2);
             assert_eq!(rt; record.len(), 2);
             Ok(())
         }

@@ -3,7 +3,8 @@ use crate::support::{load, report, wrong};
 use counters::g_counter::{Amount, GCounter};
 use counters::vector_clock::VectorClock;
 use crdt::kind::Crdt;
-use crdt::pair::{Pair, Side};
+use crdt::pair::Pair;
+use either::{Left, Right};
 use messages::pack::pack_full;
 use registers::gset::{GSet, Member};
 use words::refusal::Refusal;
@@ -16,20 +17,20 @@ type Eight = Pair<Four, Four>;
 
 #[test]
 fn a_report_is_for_one_side(rt: HostRuntime) {
-    let mut pair: Two = <Pair<_, _> as Crdt>::bottom();
-    assert_eq!(rt; report(&mut pair, 0, Side::Left(Amount(5))), Ok(()));
-    assert_eq!(rt; report(&mut pair, 0, Side::Right(Member(9))), Ok(()));
+    let mut pair = Two::bottom();
+    assert_eq!(rt; report(&mut pair, 0, Left(Amount(5))), Ok(()));
+    assert_eq!(rt; report(&mut pair, 0, Right(Member(9))), Ok(()));
     let mut delta = pair;
-    assert_eq!(rt; pair.delta(0, Side::Left(Amount(2)), &mut delta), Ok(()));
+    assert_eq!(rt; pair.delta(0, Left(Amount(2)), &mut delta), Ok(()));
     assert_eq!(rt; delta.left.total(), 7);
     assert_eq!(rt; delta.right.len(), 0);
     assert_eq!(rt;
-        pair.delta(0, Side::Right(Member(300)), &mut delta),
+        pair.delta(0, Right(Member(300)), &mut delta),
         Err(Refusal::Range)
     );
     assert_eq!(rt; delta.left.total(), 0);
     assert_eq!(rt;
-        pair.delta(16, Side::Right(Member(300)), &mut delta),
+        pair.delta(16, Right(Member(300)), &mut delta),
         Err(Refusal::Station)
     );
 }
@@ -37,8 +38,8 @@ fn a_report_is_for_one_side(rt: HostRuntime) {
 // Where only the right side does not fit, the words of the left are not written either.
 #[test]
 fn a_pair_is_written_whole_or_not(rt: HostRuntime) {
-    let mut pair: Two = <Pair<_, _> as Crdt>::bottom();
-    assert_eq!(rt; report(&mut pair, 0, Side::Left(Amount(5))), Ok(()));
+    let mut pair = Two::bottom();
+    assert_eq!(rt; report(&mut pair, 0, Left(Amount(5))), Ok(()));
     let mut words = [3; 3];
     assert_eq!(rt; pair.write(&mut words, 1), Err(Refusal::Room));
     assert_eq!(rt; words, [3; 3]);
@@ -58,7 +59,7 @@ fn a_pair_is_written_whole_or_not(rt: HostRuntime) {
 
 #[test]
 fn more_than_127_words_are_refused(rt: HostRuntime) {
-    let all = GCounter { counts: [1; 16] };
+    let all = GCounter::from([1; 16]);
     let two = Pair {
         left: all,
         right: all,
@@ -77,7 +78,7 @@ fn more_than_127_words_are_refused(rt: HostRuntime) {
     assert_eq!(rt; eight.write(&mut words, 0), Err(Refusal::Long));
     assert_eq!(rt; eight.write(&mut words, 199), Err(Refusal::Long));
     assert_eq!(rt; words, [5; 200]);
-    let clock: VectorClock = <VectorClock as Crdt>::bottom();
+    let clock = VectorClock::bottom();
     assert_eq!(rt;
         pack_full(1, &clock, &eight, &mut words),
         Err(Refusal::Long)

@@ -6,7 +6,7 @@ use words::refusal::Refusal;
 
 #[test]
 fn the_larger_value_stays(rt: HostRuntime) {
-    let mut register: MaxRegister = <MaxRegister as Crdt>::bottom();
+    let mut register = MaxRegister::bottom();
     assert_eq!(rt; report(&mut register, 0, Revision(41)), Ok(()));
     assert_eq!(rt; report(&mut register, 15, Revision(17)), Ok(()));
     assert_eq!(rt; register.value(), 41);

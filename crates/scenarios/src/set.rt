@@ -6,7 +6,7 @@ use words::refusal::Refusal;
 
 #[test]
 fn members_are_kept(rt: HostRuntime) {
-    let mut set: GSet = <GSet as Crdt>::bottom();
+    let mut set = GSet::bottom();
     assert_eq!(rt; report(&mut set, 0, Member(255)), Ok(()));
     assert_eq!(rt; report(&mut set, 1, Member(0)), Ok(()));
     assert_eq!(rt; report(&mut set, 2, Member(255)), Ok(()));
@@ -22,7 +22,7 @@ fn members_are_kept(rt: HostRuntime) {
 
 #[test]
 fn set_words(rt: HostRuntime) {
-    let mut set: GSet = <GSet as Crdt>::bottom();
+    let mut set = GSet::bottom();
     assert_eq!(rt; report(&mut set, 0, Member(255)), Ok(()));
     assert_eq!(rt; report(&mut set, 0, Member(33)), Ok(()));
     // bits above 15 of a stored entry stand for nothing
