@@ -36,7 +36,8 @@ pub trait Crdt: Copy {
     fn join(&mut self, other: &Self)
         ensures { value self.new ≡ joined (value self.old) (value other.now) };
 
-    // Writes the delta of a report into a second record, bottom on a refusal.
+    // Writes the delta of a report into a second record, bottom on a refusal. The record is the caller's memory, as in a load: what it holds
+    // after a refusal is a rule too.
     fn delta(&self, station: usize, report: Self::Report, into: &mut Self) -> Result<(), Refusal>
         ensures answer { numbered result ≡ bare (reported (value self.now) station report) }
         ensures into { value into.new ≡ value_or least (reported (value self.now) station report) };

@@ -21,7 +21,7 @@ fn fill<K: EntryKind>(row: &mut [u32; 16], reader: &mut Reader) -> Result<usize,
     let mut low: u32 = 0;
     let mut seen: u32 = 0;
     loop {
-        // No `ok_or`: it would make the fault before every word is looked at.
+        // A `let .. else`, as plain as `ok_or_else` with a closure that makes the fault.
         let Some(word) = reader.look() else {
             return Err(reader.fault(Refusal::Ended));
         };

@@ -6,18 +6,13 @@ use Rattle.entries.specs.Rows.{same_row, length_row}
 use Rattle.counters.specs.Counts.{clock_of, only}
 use Rattle.wire.specs.Messages.{Clock}
 use Rattle.histories.specs.Clusters.{entry, raised}
-use Rattle.histories.proofs.Clocks.{entry_past, entry_larger, raised_by}
+use Rattle.histories.proofs.Clocks.{only_at, entry_past, entry_larger, raised_by}
 
 pub same_clock : (a b : Clock) → ((j : ℕ) → j < 16 → entry a j ≡ entry b j) → a ≡ b
 same_clock a b each = same_row a b (tabulated_is (entry b) a.numbers (length_row a) each ∙ sym (tabulated_is (entry b) b.numbers (length_row b) (λ j h. omega arith)))
 
 stored : (xs : List ℕ) (j : ℕ) → j < 16 → entry (clock_of xs) j ≡ get_or xs j 0 % 65536
 stored xs j h = getD_tabulated (λ k. get_or xs k 0 % 65536) j h
-
-only_at : (i n j : ℕ) → j < 16 → entry (only i n) j ≡ cond (eqb j i) n 0 % 65536
-only_at i n j low =
-    getD_tabulated (λ k. get_or (tabulated (λ m. cond (eqb m i) n 0)) k 0 % 65536) j low
-    ∙ ap (λ x. x % 65536) (getD_tabulated (λ m. cond (eqb m i) n 0) j low)
 
 -- no station has a number of 16 or more
 only_past : (i n j : ℕ) → j < 16 → 16 ≤ i → entry (only i n) j ≡ 0

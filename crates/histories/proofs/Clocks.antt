@@ -29,7 +29,7 @@ entry_larger a b j = elim (cases_lt j 16) [
   | inr past ↦ (let x = entry_past a j past in let y = entry_past b j past in let z = entry_past (larger a b) j past in omega arith)
 ]
 
-only_at : (i n j : ℕ) → j < 16 → entry (only i n) j ≡ cond (eqb j i) n 0 % 65536
+pub only_at : (i n j : ℕ) → j < 16 → entry (only i n) j ≡ cond (eqb j i) n 0 % 65536
 only_at i n j low =
     getD_tabulated (λ k. get_or (tabulated (λ m. cond (eqb m i) n 0)) k 0 % 65536) j low
     ∙ ap (λ x. x % 65536) (getD_tabulated (λ m. cond (eqb m i) n 0) j low)

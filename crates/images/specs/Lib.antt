@@ -2,3 +2,4 @@ pub mod Causes
 pub mod Diagnoses
 pub mod Turns
 pub mod Laws
+pub mod Shown

@@ -1,4 +1,8 @@
 // What is wrong with a page that its check refuses.
+ghost use Rattle.std.specs.Prelude.{Some};
+ghost use Rattle.images.specs.Shown.{cause_shown};
+
+use std::fmt;
 use words::fault::Fault;
 
 // Why a page is refused: for a zero head the last, else the first that holds.
@@ -27,4 +31,19 @@ pub struct Diagnosis {
     pub cause: Cause,
     // Whether the page head is right when its bytes are read in the other order.
     pub foreign: bool,
+}
+
+impl fmt::Display for Cause {
+    ghost output = { λ x. Some (cause_shown x) };
+
+    fn fmt<W: fmt::Write>(&self, f: &mut fmt::Formatter<W>) -> fmt::Result {
+        f.write_str(match self {
+            Cause::Kind => "the head is of another kind",
+            Cause::ZeroBits => "the head has a bit that must be zero",
+            Cause::Length => "the length is not 1 to 127",
+            Cause::AfterEmpty => "the page is not empty, but comes after an empty one",
+            Cause::AfterWords => "a byte after the words is not zero",
+            Cause::EmptyPage => "the head is zero, but this byte is not",
+        })
+    }
 }

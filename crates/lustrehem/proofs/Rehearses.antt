@@ -30,9 +30,6 @@ module _ {S R : Type 0} (K : Ghosts S R) where
   follows_more x (called c a z ∷ ms) ls p q = (subst (λ y. Step K y c a z) (sym (reached_more x ms ls)) p.0, follows_more x ms ls p.1 q)
   follows_more x (delivered m z ∷ ms) ls p q = (subst (λ y. Delivered y m z) (sym (reached_more x ms ls)) p.0, follows_more x ms ls p.1 q)
 
-  pub unchanged : (y : Cluster K.Value) → Rehearsed K y y
-  unchanged y = record { lines = []; follows = tt; ends = refl }
-
   by_call : (y z : Cluster K.Value) (c : Call R) (a : Answer) → Step K y c a z → Rehearsed K y z
   by_call y z c a step = record { lines = called c a z ∷ []; follows = (step, tt); ends = refl }
 

@@ -24,6 +24,7 @@ use std::io::Write;
 use thiserror::Error;
 use words::fault::Fault;
 use words::refusal::Refusal;
+use words::word::LONGEST;
 
 // A line that made a cluster, and what came of it.
 #[derive(Clone, Copy)]
@@ -55,7 +56,7 @@ pub(crate) fn serve<C: Recorded, M: Imaged, W: Write>(
     if let Some(opening) = opening {
         announce(script.out, opening, mailbox)?;
     }
-    let mut words = [0; 127];
+    let mut words = [0; LONGEST];
     // A count, since a loop has to end: no text has more lines.
     for _ in 0..usize::MAX {
         match script.next()? {
@@ -97,7 +98,7 @@ fn obey<C: Recorded, M: Imaged, W: Write>(
     command: Command,
     table: &mut [Station<C>],
     mailbox: &mut M,
-    words: &mut [u32; 127],
+    words: &mut [u32; LONGEST],
 ) -> io::Result<()>
     ensures lines { Rehearsed C.Crdt (cluster_of C.Crdt M.Mailbox table.old mailbox.old) (cluster_of C.Crdt M.Mailbox table.new mailbox.new) }
     ensures obeyed { Obeyed C.Crdt script.old.words.items (cluster_of C.Crdt M.Mailbox table.old mailbox.old) (cluster_of C.Crdt M.Mailbox table.new mailbox.new) command }
@@ -155,7 +156,7 @@ fn make<C: Recorded, M: Mailbox, W: Write>(
     table: &mut [Station<C>],
     mailbox: &mut M,
     asked: &Call<C::Report>,
-    words: &mut [u32; 127],
+    words: &mut [u32; LONGEST],
 ) -> io::Result<()>
     ensures made { Made C.Crdt (cluster_of C.Crdt M.Mailbox table.old mailbox.old) (meant 127 asked.now) (cluster_of C.Crdt M.Mailbox table.new mailbox.new) }
 {

@@ -10,6 +10,7 @@ use page_mailbox::PageMailbox;
 use stations::station::Station;
 use std::io::Write;
 use words::refusal::Refusal;
+use words::word::LONGEST;
 
 // The words of each message that waits.
 pub(crate) fn list_messages<W: Write>(out: &mut W, image: &mut [u8; 4096]) -> anyhow::Result<()> {
@@ -21,17 +22,17 @@ pub(crate) fn list_messages<W: Write>(out: &mut W, image: &mut [u8; 4096]) -> an
 }
 
 fn show_message<M: Mailbox, W: Write>(out: &mut W, mailbox: &M, k: usize) -> anyhow::Result<()> {
-    let mut words = [0; 127];
+    let mut words = [0; LONGEST];
     let n = mailbox.read(k, &mut words)?;
-    let message = Hex::<u32, 8>(&words[..n.min(127)]);
+    let message = Hex::<u32, 8>(&words[..n.min(LONGEST)]);
     writeln!(out, "  message {k}: {message}")?;
     Ok(())
 }
 
 // A copy of the last message with one bit turned over, put beside the others.
 fn put_damaged<M: Mailbox>(mailbox: &mut M) -> Result<(), Refusal> {
-    let mut words = [0; 127];
-    let n = mailbox.read(4, &mut words)?.min(127);
+    let mut words = [0; LONGEST];
+    let n = mailbox.read(4, &mut words)?.min(LONGEST);
     words[1] ^= 0x0001_0000;
     mailbox.put(&words[..n])
 }
@@ -44,7 +45,7 @@ pub(crate) fn damaged_copy<W: Write>(
 ) -> anyhow::Result<()> {
     let mut mailbox = PageMailbox::mount(image);
     put_damaged(&mut mailbox).map_err(|_| anyhow!("no room for a damaged copy"))?;
-    let mut words = [0; 127];
+    let mut words = [0; LONGEST];
     match fetch(stations, &mailbox, 1, 5, &mut words) {
         Ok(n) => writeln!(out, "a damaged copy was taken as {n} words")?,
         Err(fault) => writeln!(

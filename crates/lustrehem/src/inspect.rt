@@ -5,7 +5,6 @@ use crate::show::Counts;
 use counters::vector_clock::VectorClock;
 use crdt::kind::Crdt;
 use images::diagnose::diagnose;
-use images::diagnosis::Cause;
 use mailboxes::mailbox::Mailbox;
 use messages::header::Header;
 use messages::unpack::unpack;
@@ -13,7 +12,8 @@ use page_mailbox::PageMailbox;
 use page_mailbox::bytes::PAGE;
 use std::io::Write;
 use std::{fmt, io};
-use words::fault::Fault;
+use words::fault::{Fault, Layer};
+use words::word::LONGEST;
 
 // Says what is on the image of that name, where records are of kind C.
 pub(crate) fn inspect<C: Recorded, W: Write>(
@@ -65,8 +65,11 @@ struct Message<C> {
 
 // Message k, where it is one of this record kind.
 fn read_message<C: Crdt, M: Mailbox>(mailbox: &M, k: usize) -> Result<Message<C>, Fault> {
-    let mut words = [0; 127];
-    let n = mailbox.read(k, &mut words).unwrap_or(0).min(127);
+    let mut words = [0; LONGEST];
+    let n = mailbox
+        .read(k, &mut words)
+        .map_err(|refusal| Fault::plain(refusal, Layer::Mailbox))?
+        .min(LONGEST);
     let mut clock = VectorClock::bottom();
     let mut record = C::bottom();
     let header = unpack(&words[0..n], &mut clock, &mut record)?;
@@ -99,12 +102,7 @@ fn explain<W: Write>(out: &mut W, bytes: &[u8]) -> io::Result<()> {
     let Some(diagnosis) = diagnose(bytes) else {
         return Ok(());
     };
-    writeln!(
-        out,
-        "byte {}: {}",
-        diagnosis.byte,
-        cause_name(diagnosis.cause)
-    )?;
+    writeln!(out, "byte {}: {}", diagnosis.byte, diagnosis.cause)?;
     if diagnosis.foreign {
         writeln!(
             out,
@@ -112,16 +110,4 @@ fn explain<W: Write>(out: &mut W, bytes: &[u8]) -> io::Result<()> {
         )?;
     }
     Ok(())
-}
-
-// A function: the type is another crate's.
-fn cause_name(cause: Cause) -> &'static str {
-    match cause {
-        Cause::Kind => "the head is of another kind",
-        Cause::ZeroBits => "the head has a bit that must be zero",
-        Cause::Length => "the length is not 1 to 127",
-        Cause::AfterEmpty => "the page is not empty, but comes after an empty one",
-        Cause::AfterWords => "a byte after the words is not zero",
-        Cause::EmptyPage => "the head is zero, but this byte is not",
-    }
 }

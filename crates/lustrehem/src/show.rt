@@ -196,7 +196,7 @@ impl fmt::Display for Answered<'_> {
     }
 }
 
-// How one clock stands to another. A function: the type is another crate's.
+// How one clock stands to another. A function: the type is the library's.
 pub(crate) fn order_name(order: Option<Ordering>) -> &'static str {
     match order {
         Some(Ordering::Equal) => "same",

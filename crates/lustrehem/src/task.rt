@@ -16,6 +16,7 @@ use replication::replay::replay;
 use stations::station::Station;
 use std::alloc::Global;
 use std::io::Write;
+use words::word::LONGEST;
 
 // How many erased blocks the family is rated for.
 const RATED: u32 = 60;
@@ -63,7 +64,7 @@ fn history<M: Mailbox + Drop>(
     calls: &[Call<CardReport>],
 ) -> anyhow::Result<Vec<Answer>> {
     let mut answers = vec![in heap; Ok(Reply::Done); calls.len()]?;
-    let mut words = [0; 127];
+    let mut words = [0; LONGEST];
     replay(stations, &mut mailbox, calls, &mut answers, &mut words).map_err(|_| anyhow!(
         "the calls were not begun"
     ))?;

@@ -67,7 +67,7 @@ impl<A: Mailbox, B: Mailbox> Mailbox for Overflow<A, B> {
     }
 
     fn read(&self, k: usize, words: &mut [u32]) -> Result<usize, Refusal> {
-        let here = self.first.count() as usize;
+        let here = usize::from(self.first.count());
         if k < here {
             self.first.read(k, words)
         } else if k < 65_535 {
@@ -86,7 +86,7 @@ impl<A: Mailbox, B: Mailbox> Mailbox for Overflow<A, B> {
         ensures refused { Kept result self.old self.new }
         ensures others { (k < counted (A.Mailbox.waiting self.old.first) → self.new.second ≡ self.old.second) × (counted (A.Mailbox.waiting self.old.first) ≤ k → self.new.first ≡ self.old.first) }
     {
-        let here = self.first.count() as usize;
+        let here = usize::from(self.first.count());
         if k < here {
             self.first.discard(k)
         } else if k < 65_535 {

@@ -50,7 +50,7 @@ pub fn perform<C: Crdt, M: Mailbox>(
             mail::discard(stations, mailbox, *message)?;
             Ok(Reply::Done)
         }
-        Call::Count => Ok(Reply::Number(mail::count(stations, mailbox) as usize)),
+        Call::Count => Ok(Reply::Number(usize::from(mail::count(stations, mailbox)))),
         Call::Fits { len } => Ok(Reply::Fits(mail::fits(stations, mailbox, *len))),
         Call::Read { message } => {
             let read = mail::read(stations, mailbox, *message, words)?;

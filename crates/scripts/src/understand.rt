@@ -95,6 +95,7 @@ fn fetch(tokens: &mut Tokens) -> Result<Command, Expected>
     Ok(Command::Fetch { station, message })
 }
 
+// Two numbers, as `fetch` reads: one function for both would take the two expectations and a closure that makes the command.
 fn compare(tokens: &mut Tokens) -> Result<Command, Expected>
     ensures { Reads compare_of (left tokens.old) result (left tokens.new) }
 {

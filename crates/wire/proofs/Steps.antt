@@ -45,13 +45,9 @@ module _ (start r : Reader) (ws : List ℕ) (at : At start r ws) where
       let m : r.place + length (left r) - length more ≡ start.place + length (left start) - length more = omega arith in
       λ i. record { words = (s i).words; place = m i; layer = (s i).layer }
 
-  -- the answers of what it reads from there are those of what start would
+  -- the fault of what it reads from there is that of what start would
   pub at_fault : (n : ℕ) → fault_at r n ≡ fault_at (before start ws) n
   at_fault n = ap (λ s. fault_at s n) at.stands
-
-  pub at_answer : {X : Type 0} (x : Reading X) → load_answer r x ≡ load_answer start x
-  at_answer (read v more) = ap (λ (s : Reader). Ok s.place) (at_before more)
-  at_answer (wrong n more) = ap (λ s. Err (fault_at s n)) (at_before more)
 
 -- a reader that has read to where it stands now
 pub at_moved : (start r now : Reader) (ws : List ℕ) → now ≡ r → At start r ws → At start now ws

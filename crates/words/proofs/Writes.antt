@@ -1,7 +1,7 @@
 -- The three ways of a write. Assumes nothing.
 use Rattle.std.proofs.Common.{◌≡◌, ℕ, suc, ◌+◌, ◌-◌, ◌<◌, ◌≤◌, List, [], ◌∷◌, ◌++◌, length, take, drop, set, Ok, Err, sym, refl, ap, ◌∙◌, ⊎_elim, append_assoc, add-zero, add-one, arith, lit≤, length-append, length-drop, take-append-drop, length-take, drop-drop, take_at, drop-set-lt, drop_at}
 use lib.Seq.{set_split}
-use Rattle.std.proofs.lemmas.List.{take_more_set, drop_all}
+use Rattle.std.proofs.lemmas.List.{take_more_set}
 use Rattle.std.proofs.lemmas.Bool.{lt-ltb, le-ltb, cond-true, cond-false, cases_lt}
 use Rattle.words.specs.Writes.{write_answer, write_leaves, put}
 
@@ -101,17 +101,3 @@ answer_done room place n m e =
     (λ (fits : n ≤ room - place). (few, fits))
     (cases_lt (room - place) n))
     (cases_lt 127 n)
-
--- what stands at the place after a write
-pub drop_leaves : (old : List ℕ) (place : ℕ) (ws : List ℕ) → length ws ≤ 127 → length ws ≤ length old - place → drop place (write_leaves old place ws) ≡ ws ++ drop (place + length ws) old
-drop_leaves old place ws few room =
-    ⊎_elim
-    (λ (past : length old < place).
-    let e : ws ≡ [] = nothing ws (omega arith) in
-    let none : drop place (write_leaves old place []) ≡ [] = ap (drop place) (leaves_none old place) ∙ drop_all place old (omega arith) in
-    let none' : drop (place + length ws) old ≡ [] = drop_all (place + length ws) old (omega arith) in
-    ap (λ xs. drop place (write_leaves old place xs)) e ∙ none ∙ sym (ap (λ xs. xs ++ drop (place + length ws) old) e ∙ none'))
-    (λ (start : place ≤ length old).
-    let front : length (take place old) ≡ place = simp length-take (omega arith) in
-    ap (drop place) (leaves_fits old place ws few room) ∙ drop_at (take place old) (ws ++ drop (place + length ws) old) place front)
-    (cases_lt (length old) place)

@@ -43,7 +43,7 @@ pub enum Refusal {
 }
 
 impl Refusal {
-    // Its number, from 1 to 16. A method: `u32::from(refusal)` would not say which number.
+    // Its number, from 1 to 16. A method, since the number has a name in every document; `u32::from` would be no plainer.
     pub fn number(self) -> u32
         ensures { result ≡ number_of self }
     {

@@ -5,6 +5,9 @@ ghost use Rattle.words.specs.Words.{kind_number, kind, index, formed, word_of};
 // The most words of a message, and so of a record.
 pub const LONGEST: usize = 127;
 
+// How many stations there are; each has a number below it.
+pub const STATIONS: usize = 16;
+
 // The kinds of words. Kinds 0 and 10 to 14 are not in use.
 #[derive(Clone, Copy, PartialEq, Eq, Debug)]
 pub enum WordKind {
@@ -21,7 +24,7 @@ pub enum WordKind {
 }
 
 impl WordKind {
-    // Its number, below 16. A method: `u32::from(kind)` would not say which number.
+    // Its number, below 16. A method, as of a refusal; `u32::from` would be no plainer.
     pub fn number(self) -> u32
         ensures value { result ≡ kind_number self }
         ensures bound { result < 16 }
@@ -81,5 +84,13 @@ impl Word {
         ensures bound { result < 16 }
     {
         self.0 / 0x100_0000 % 16
+    }
+
+    // Bits 0 to 7: the length that a head gives.
+    pub fn length(self) -> usize
+        ensures value { result ≡ self.0 % 256 }
+        ensures bound { result < 256 }
+    {
+        (self.0 % 256) as usize
     }
 }

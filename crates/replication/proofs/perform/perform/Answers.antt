@@ -1,6 +1,8 @@
-use Rattle.std.proofs.Common.{length, Ok, Err, refl, ap, ◌∙◌}
+use Rattle.std.proofs.Common.{ℕ, length, Ok, Err, sym, refl, ap, ◌∙◌, subst}
 use Rattle.std.proofs.lemmas.Result.{err_from_is_err_and}
+use Rattle.histories.specs.Calls.{Step, count, number}
 use Rattle.histories.proofs.Overs.{laws_of}
+use Rattle.stations.specs.Stored.{cluster_of}
 use Rattle.replication.specs.Runs.{asked, told}
 use Rattle.replication.proofs.Refuses.{in_any_case, owed}
 use Rattle.replication.proofs.Steps.{step_report, step_send_delta, step_send_full, step_fetch}
@@ -161,7 +163,9 @@ returns-in-Count g c =
     let K = g.C.Crdt in
     let k = g.met.C.Crdt in
     let old = c.args.words.now in
-    let o = owed K (laws_of K k.assoc k.comm k.idem k.neutral k.reads k.exact) _ _ _ _ _ _ old _ (ap (asked (length old)) c.in-Count.is) refl c.count.ensures.step refl in
+    let y = cluster_of K g.M.Mailbox c.args.stations.now c.args.mailbox.now in
+    let step : Step K y count (number c.from.result) y = subst (λ n. Step K y count (number n) y) (sym c.from.ensures) c.count.ensures.step in
+    let o = owed K (laws_of K k.assoc k.comm k.idem k.neutral k.reads k.exact) _ _ _ _ _ _ old _ (ap (asked (length old)) c.in-Count.is) refl step refl in
     record { step = o.step; words = o.words; refused = tt; promised = o.promised }
 
 pub returns-in-Fits : goal.returns-in-Fits

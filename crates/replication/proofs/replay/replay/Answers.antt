@@ -11,6 +11,34 @@ use Rattle.replication.proofs.Begins.{none_wait, by_table, few, was_made, on_ok}
 use Rattle.replication.proofs.Grows.{ran_none, ran_on}
 use Rattle.replication.proofs.replay.replay.Goals as goal
 
+pub returns : goal.returns
+returns g c =
+    let k = g.met.C.Crdt in
+    let K = g.C.Crdt in
+    let P = g.M.Mailbox in
+    let m = c.args.mailbox.now in
+    let calls = c.args.calls.now in
+    let old = c.args.words.now in
+    let n = length c.init.new.stations in
+    let all : take (length calls) calls ≡ calls = take_all (length calls) calls (omega arith) in
+    let last : c.loop-i.i ≡ length calls = omega arith in
+    let f = asked (length old) in
+    let said = map told (take (length calls) c.loop-i.answers) in
+    let z = cluster_of K P c.loop-i.stations c.loop-i.mailbox in
+    let none = none_wait (P.waiting m) _ c.count.ensures c.if-count-ne0.false in
+    let went : Ran K n (P.takes m) (map f calls) said old c.loop-i.words z =
+    subst (λ l. Ran K n (P.takes m) (map f l) said old c.loop-i.words z) all
+    (subst (λ i. Ran K n (P.takes m) (map f (take i calls)) (map told (take i c.loop-i.answers)) old c.loop-i.words z) last c.loop-i.invariant.0) in
+    let laws = laws_of K k.assoc k.comm k.idem k.neutral k.reads k.exact in
+    let made = was_made _ _ (sym c.in_ok-map_err.ensures.variant) c.init.ensures.answer in
+    record {
+      answer = sym (ap table_ready made) ∙ sym (by_table (length calls) (length c.args.answers.now) (length c.args.stations.now) (P.waiting m) c.if-answers-calls.false none);
+      run = subst (λ s. Replayed K s (P.takes m) (map f calls) said old c.loop-i.words z) c.init.auto.stations
+          (record { run = went; promised = histories_promised K laws went.start n went.fresh went.history went.lawful });
+      answers = c.loop-i.invariant.1 (length calls) (omega arith);
+      refused = (tt, tt, tt, tt);
+    }
+
 pub loop-i-init : goal.loop-i-init
 loop-i-init g c =
     let K = g.C.Crdt in
@@ -42,31 +70,3 @@ loop-i-preserved g c =
       ran_on K (length c.init.new.stations) (P.takes c.args.mailbox.now) c.args.words.now (asked (length c.args.words.now)) told c.args.calls.now c.loop-i.answers i x c.perform.result low c.index-calls-i.is room now new y z c.loop-i.invariant.0 step leaves,
       λ j past. drop-set-lt j c.loop-i.answers i c.perform.result (omega arith) ∙ c.loop-i.invariant.1 j (omega arith),
     )
-
-pub returns : goal.returns
-returns g c =
-    let k = g.met.C.Crdt in
-    let K = g.C.Crdt in
-    let P = g.M.Mailbox in
-    let m = c.args.mailbox.now in
-    let calls = c.args.calls.now in
-    let old = c.args.words.now in
-    let n = length c.init.new.stations in
-    let all : take (length calls) calls ≡ calls = take_all (length calls) calls (omega arith) in
-    let last : c.loop-i.i ≡ length calls = omega arith in
-    let f = asked (length old) in
-    let said = map told (take (length calls) c.loop-i.answers) in
-    let z = cluster_of K P c.loop-i.stations c.loop-i.mailbox in
-    let none = none_wait (P.waiting m) _ c.count.ensures c.if-count-ne0.false in
-    let went : Ran K n (P.takes m) (map f calls) said old c.loop-i.words z =
-    subst (λ l. Ran K n (P.takes m) (map f l) said old c.loop-i.words z) all
-    (subst (λ i. Ran K n (P.takes m) (map f (take i calls)) (map told (take i c.loop-i.answers)) old c.loop-i.words z) last c.loop-i.invariant.0) in
-    let laws = laws_of K k.assoc k.comm k.idem k.neutral k.reads k.exact in
-    let made = was_made _ _ (sym c.in_ok-map_err.ensures.variant) c.init.ensures.answer in
-    record {
-      answer = sym (ap table_ready made) ∙ sym (by_table (length calls) (length c.args.answers.now) (length c.args.stations.now) (P.waiting m) c.if-answers-calls.false none);
-      run = subst (λ s. Replayed K s (P.takes m) (map f calls) said old c.loop-i.words z) c.init.auto.stations
-          (record { run = went; promised = histories_promised K laws went.start n went.fresh went.history went.lawful });
-      answers = c.loop-i.invariant.1 (length calls) (omega arith);
-      refused = (tt, tt, tt, tt);
-    }

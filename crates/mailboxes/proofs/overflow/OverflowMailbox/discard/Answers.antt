@@ -8,7 +8,7 @@ returns-then-k-here g c =
     let a = g.A.Mailbox.waiting c.args.self.now.first in
     let b = g.B.Mailbox.waiting c.args.self.now.second in
     let k = c.args.k in
-    let h : k < counted a = omega (arith, c.count-here.ensures, c.if-k-here.true) in
+    let h : k < counted a = omega (arith, c.count.ensures, c.if-k-here.true) in
     record {
       answer = c.discard.ensures.answer ∙ discard_first a b k h;
       after = rw c.discard.ensures.after (discard_first_leaves a b k h);
@@ -21,7 +21,7 @@ returns-then-k-lt65535 g c =
     let a = g.A.Mailbox.waiting c.args.self.now.first in
     let b = g.B.Mailbox.waiting c.args.self.now.second in
     let k = c.args.k in
-    let n = c.count-here.ensures in
+    let n = c.from-here.ensures ∙ c.count.ensures in
     let h : counted a ≤ k = omega (arith, n, c.if-k-here.false) in
     let l = c.if-k-lt65535.true in
     record {

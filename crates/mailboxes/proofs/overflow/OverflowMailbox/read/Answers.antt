@@ -9,7 +9,7 @@ returns-then-k-here g c =
     let b = g.B.Mailbox.waiting c.args.self.now.second in
     let k = c.args.k in
     let old = c.args.words.now in
-    let h : k < counted a = omega (arith, c.count-here.ensures, c.if-k-here.true) in
+    let h : k < counted a = omega (arith, c.count.ensures, c.if-k-here.true) in
     record {
       answer = c.read.ensures.answer ∙ read_first a b k (length old) h;
       words = c.read.ensures.words ∙ read_first_leaves a b k old h;
@@ -21,7 +21,7 @@ returns-then-k-lt65535 g c =
     let b = g.B.Mailbox.waiting c.args.self.now.second in
     let k = c.args.k in
     let old = c.args.words.now in
-    let n = c.count-here.ensures in
+    let n = c.from-here.ensures ∙ c.count.ensures in
     let h : counted a ≤ k = omega (arith, n, c.if-k-here.false) in
     let l = c.if-k-lt65535.true in
     record {
