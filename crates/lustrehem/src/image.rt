@@ -48,11 +48,7 @@ pub(crate) fn damaged_copy<W: Write>(
     let mut words = [0; LONGEST];
     match fetch(stations, &mailbox, 1, 5, &mut words) {
         Ok(n) => writeln!(out, "a damaged copy was taken as {n} words")?,
-        Err(fault) => writeln!(
-            out,
-            "a damaged copy: station {}, message {}: {}",
-            fault.station, fault.message, fault.fault
-        )?,
+        Err(fault) => writeln!(out, "a damaged copy: {fault}")?,
     }
     Ok(())
 }

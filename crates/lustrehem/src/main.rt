@@ -70,11 +70,10 @@ fn run_script<W: Write>(
     image: Option<String>,
 ) -> Result<(), Failure> {
     let script = load_script(rt, name)?;
-    let image = match image {
-        Some(image) => load_image(rt, image.as_str())?,
-        None => Vec::new(rt.alloc()),
-    };
-    rehearse(rt, out, &script, &image)
+    let image = image
+        .map(|image| load_image(rt, image.as_str()))
+        .transpose()?;
+    rehearse(rt, out, &script, image.as_deref())
 }
 
 fn run_inspect<W: Write>(

@@ -3,6 +3,7 @@ use crate::cluster::{Opening, Unready, serve};
 use crate::failure::Failure;
 use crate::record::Recorded;
 use crate::script::Script;
+use crate::store::Imaged;
 use cards::card_record::CardRecord;
 use cards::loan_record::LoanRecord;
 use crdt::kind::Crdt;
@@ -50,12 +51,12 @@ impl Settings {
     }
 }
 
-// Runs a script. The image is what `mailbox image` mounts; no bytes are none.
+// Runs a script. The image is what `mailbox image` mounts.
 pub(crate) fn rehearse<'a, W: Write>(
     rt: &'a HostRuntime,
     out: &'a mut W,
     text: &'a [u8],
-    image: &'a [u8],
+    image: Option<&'a [u8]>,
 ) -> Result<(), Failure> {
     let mut script = Script::new(rt, out, text, image);
     let mut settings = Settings::first();
@@ -84,11 +85,11 @@ enum Memory {
 
 impl Memory {
     // All zero, or a copy of the image.
-    fn of(heap: Global, store: Store, image: &[u8]) -> Result<Memory, AllocError> {
+    fn of(heap: Global, store: Store, image: Option<&[u8]>) -> Result<Memory, AllocError> {
         Ok(match store {
             Store::Words(count) => Memory::Words(vec![in heap; 0; count]?),
             Store::Pages(count) => Memory::Pages(vec![in heap; 0; count]?),
-            Store::Image => Memory::Pages(image.to_vec(heap)?),
+            Store::Image => Memory::Pages(image.unwrap_or(&[]).to_vec(heap)?),
         })
     }
 
@@ -153,32 +154,30 @@ fn open<C: Recorded, W: Write>(
         (Memory::Pages(mut bytes), None) => {
             serve(script, opening, table, &mut PageMailbox::mount(&mut bytes))
         }
-        (Memory::Words(mut words), Some(Memory::Words(mut more))) => {
-            let mut mailbox = Overflow::new(
-                WordMailbox::open(&mut words),
-                WordMailbox::open(&mut more),
-            );
+        (Memory::Words(mut words), Some(high)) => {
+            beside(script, opening, table, WordMailbox::open(&mut words), high)
+        }
+        (Memory::Pages(mut bytes), Some(high)) => {
+            beside(script, opening, table, PageMailbox::mount(&mut bytes), high)
+        }
+    }
+}
+
+// Opens the second part of an overflow, and serves the cluster.
+fn beside<C: Recorded, A: Imaged + Drop, W: Write>(
+    script: &mut Script<W>,
+    opening: Option<Opening>,
+    table: &mut [Station<C>],
+    first: A,
+    high: Memory,
+) -> io::Result<Option<Command>> {
+    match high {
+        Memory::Words(mut words) => {
+            let mut mailbox = Overflow::new(first, WordMailbox::open(&mut words));
             serve(script, opening, table, &mut mailbox)
         }
-        (Memory::Words(mut words), Some(Memory::Pages(mut bytes))) => {
-            let mut mailbox = Overflow::new(
-                WordMailbox::open(&mut words),
-                PageMailbox::mount(&mut bytes),
-            );
-            serve(script, opening, table, &mut mailbox)
-        }
-        (Memory::Pages(mut bytes), Some(Memory::Words(mut words))) => {
-            let mut mailbox = Overflow::new(
-                PageMailbox::mount(&mut bytes),
-                WordMailbox::open(&mut words),
-            );
-            serve(script, opening, table, &mut mailbox)
-        }
-        (Memory::Pages(mut bytes), Some(Memory::Pages(mut more))) => {
-            let mut mailbox = Overflow::new(
-                PageMailbox::mount(&mut bytes),
-                PageMailbox::mount(&mut more),
-            );
+        Memory::Pages(mut bytes) => {
+            let mut mailbox = Overflow::new(first, PageMailbox::mount(&mut bytes));
             serve(script, opening, table, &mut mailbox)
         }
     }

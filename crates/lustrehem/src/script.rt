@@ -19,8 +19,8 @@ pub(crate) struct Script<'a, W> {
     text: &'a [u8],
     // The number of the line that was read last.
     line: usize,
-    // The card image that was named on the command line; no bytes are none.
-    pub(crate) image: &'a [u8],
+    // The card image, where one was named on the command line.
+    pub(crate) image: Option<&'a [u8]>,
     // How many lines were not understood.
     wrong: usize,
     // The words of the put that was read last.
@@ -44,7 +44,7 @@ impl<'a, W: Write> Script<'a, W> {
         rt: &'a HostRuntime,
         out: &'a mut W,
         text: &'a [u8],
-        image: &'a [u8],
+        image: Option<&'a [u8]>,
     ) -> Script<'a, W> {
         Script {
             rt,
@@ -81,7 +81,7 @@ impl<'a, W: Write> Script<'a, W> {
                 eprintln!(self.rt; "lustrehem: {before} lines")?;
             }
             match understand(line, &mut self.words) {
-                Ok(Some(command)) if self.image.is_empty() && wants_image(command) => {
+                Ok(Some(command)) if self.image.is_none() && wants_image(command) => {
                     self.misunderstood("words or pages, since no image was given")?;
                 }
                 Ok(Some(command)) => return Ok(Some(command)),

@@ -7,7 +7,7 @@ use crate::show::{AnswerOf, CallOf, Counts};
 use anyhow::anyhow;
 use cards::card_record;
 use cards::card_record::{CardRecord, CardReport};
-use cards::verdict::{Verdict, judge};
+use cards::verdict::judge;
 use mailboxes::mailbox::Mailbox;
 use page_mailbox::PageMailbox;
 use replication::answer::{Answer, Reply};
@@ -97,10 +97,7 @@ fn decide<W: Write>(out: &mut W, station: &Station<CardRecord>) -> anyhow::Resul
         out,
         "  station {number}: clock {clock}, erased {erased}, net {net}, retired groups {groups}, firmware {firmware}"
     )?;
-    let verdict = match judge(total, RATED) {
-        Verdict::Pulled => "pulled",
-        Verdict::GoesBack => "goes back",
-    };
+    let verdict = judge(total, RATED);
     writeln!(
         out,
         "  station {number}: total erased {total} of {RATED}: {verdict}"
