@@ -1,5 +1,5 @@
 -- The test that no count is higher, and the sum of the counts, over stored counts. Assumes nothing.
-use Rattle.std.proofs.Common.{◌≡◌, ℕ, ◌+◌, ◌%◌, ◌&&◌, leb, List, [], ◌∷◌, length, map, refl, ap, ◌∙◌, arith}
+use Rattle.std.proofs.Common.{◌≡◌, ℕ, ◌+◌, ◌%◌, ◌&&◌, leb, List, [], ◌∷◌, length, map, refl, ap, ◌∙◌}
 use Rattle.std.specs.List.{zip, list_all}
 use Rattle.entries.specs.Rows.{row_of}
 use Rattle.entries.proofs.Turns.{numbers_of}
