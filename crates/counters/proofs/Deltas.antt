@@ -13,30 +13,30 @@ pub refusing : (top : ℕ) (o : Result (Row top) ℕ) (n : ℕ) → o ≡ Err n 
 refusing top o n e = (sym (ap bare e), zeros_stand top ∙ sym (ap (value_or (empty top)) e))
 
 module _ (top : ℕ) (xs : List ℕ) (s n : ℕ) where
-  pub reported_station : 15 < s → count_reported (row_of top xs) s n ≡ Err 1
+  pub reported_station : 16 ≤ s → count_reported (row_of top xs) s n ≡ Err 1
   reported_station h = cond-true _ _ _ (lt-ltb 15 s h)
 
-  pub reported_none : s ≤ 15 → n ≡ 0 → count_reported (row_of top xs) s n ≡ Err 2
-  reported_none h e = cond-false _ _ _ (le-ltb 15 s h) ∙ cond-true _ _ _ (eq-eqb n 0 e)
+  pub reported_none : s < 16 → n ≡ 0 → count_reported (row_of top xs) s n ≡ Err 2
+  reported_none h e = cond-false _ _ _ (le-ltb 15 s (omega arith)) ∙ cond-true _ _ _ (eq-eqb n 0 e)
 
-  pub reported_many : s ≤ 15 → (n ≡ 0 → ⊥) → 65535 < n → count_reported (row_of top xs) s n ≡ Err 2
-  reported_many h e m = cond-false _ _ _ (le-ltb 15 s h) ∙ cond-false _ _ _ (ne_eqb n 0 e) ∙ cond-true _ _ _ (lt-ltb 65535 n m)
+  pub reported_many : s < 16 → (n ≡ 0 → ⊥) → 65535 < n → count_reported (row_of top xs) s n ≡ Err 2
+  reported_many h e m = cond-false _ _ _ (le-ltb 15 s (omega arith)) ∙ cond-false _ _ _ (ne_eqb n 0 e) ∙ cond-true _ _ _ (lt-ltb 65535 n m)
 
-  stored : s ≤ 15 → get_or (row_of top xs).numbers s 0 ≡ get_or xs s 0 % (top + 1)
-  stored h = getD_tabulated (λ k. get_or xs k 0 % (top + 1)) s (omega arith)
+  stored : s < 16 → get_or (row_of top xs).numbers s 0 ≡ get_or xs s 0 % (top + 1)
+  stored h = getD_tabulated (λ k. get_or xs k 0 % (top + 1)) s h
 
-  pub reported_limit : s ≤ 15 → (n ≡ 0 → ⊥) → n ≤ 65535 → top < get_or xs s 0 % (top + 1) + n → count_reported (row_of top xs) s n ≡ Err 3
+  pub reported_limit : s < 16 → (n ≡ 0 → ⊥) → n ≤ 65535 → top < get_or xs s 0 % (top + 1) + n → count_reported (row_of top xs) s n ≡ Err 3
   reported_limit h e m t =
       let p = stored h in
-      cond-false _ _ _ (le-ltb 15 s h) ∙ cond-false _ _ _ (ne_eqb n 0 e) ∙ cond-false _ _ _ (le-ltb 65535 n m) ∙ cond-true _ _ _ (lt-ltb top (get_or (row_of top xs).numbers s 0 + n) (omega arith))
+      cond-false _ _ _ (le-ltb 15 s (omega arith)) ∙ cond-false _ _ _ (ne_eqb n 0 e) ∙ cond-false _ _ _ (le-ltb 65535 n m) ∙ cond-true _ _ _ (lt-ltb top (get_or (row_of top xs).numbers s 0 + n) (omega arith))
 
-  pub reported_done : s ≤ 15 → (n ≡ 0 → ⊥) → n ≤ 65535 → get_or xs s 0 % (top + 1) + n ≤ top → count_reported (row_of top xs) s n ≡ Ok (only s (get_or xs s 0 % (top + 1) + n))
+  pub reported_done : s < 16 → (n ≡ 0 → ⊥) → n ≤ 65535 → get_or xs s 0 % (top + 1) + n ≤ top → count_reported (row_of top xs) s n ≡ Ok (only s (get_or xs s 0 % (top + 1) + n))
   reported_done h e m t =
       let p = stored h in
-      cond-false _ _ _ (le-ltb 15 s h) ∙ cond-false _ _ _ (ne_eqb n 0 e) ∙ cond-false _ _ _ (le-ltb 65535 n m) ∙ cond-false _ _ _ (le-ltb top (get_or (row_of top xs).numbers s 0 + n) (omega arith)) ∙ ap (λ k. Ok (only s (k + n))) p
+      cond-false _ _ _ (le-ltb 15 s (omega arith)) ∙ cond-false _ _ _ (ne_eqb n 0 e) ∙ cond-false _ _ _ (le-ltb 65535 n m) ∙ cond-false _ _ _ (le-ltb top (get_or (row_of top xs).numbers s 0 + n) (omega arith)) ∙ ap (λ k. Ok (only s (k + n))) p
 
 -- one stored count among zeros
-pub one_stored : (top s m : ℕ) → s ≤ 15 → row_of top (set (replicate 16 0) s m) ≡ only s m
+pub one_stored : (top s m : ℕ) → s < 16 → row_of top (set (replicate 16 0) s m) ≡ only s m
 one_stored top s m h = same_row _ _ (tabulated_same _ _ (λ k low. ap (λ x. x % (top + 1)) (at k ∙ sym (getD_tabulated (λ j. cond (eqb j s) m 0) k low))))
   where
     at : (k : ℕ) → get_or (set (replicate 16 0) s m) k 0 ≡ cond (eqb k s) m 0

@@ -1,14 +1,9 @@
 -- The test that no count is higher, and the sum of the counts, over stored counts. Assumes nothing.
-use Rattle.std.proofs.Common.{◌≡◌, ℕ, ◌+◌, ◌%◌, ◌&&◌, leb, List, [], ◌∷◌, length, map, refl, ap, ◌∙◌, arith}
+use Rattle.std.proofs.Common.{◌≡◌, ℕ, ◌+◌, ◌%◌, ◌&&◌, leb, List, [], ◌∷◌, length, map, refl, ap, ◌∙◌}
 use Rattle.std.specs.List.{zip, list_all}
-use Rattle.std.proofs.lemmas.List.{length-map, get_or-map}
-use Rattle.entries.specs.Sixteen.{tabulated_is}
 use Rattle.entries.specs.Rows.{row_of}
+use Rattle.entries.proofs.Turns.{numbers_of}
 use Rattle.counters.specs.Orders.{none_higher}
-
--- the numbers of the row that sixteen stored numbers stand for
-pub numbers_of : (top : ℕ) (xs : List ℕ) → length xs ≡ 16 → map (λ x. x % (top + 1)) xs ≡ (row_of top xs).numbers
-numbers_of top xs long = tabulated_is _ (map (λ x. x % (top + 1)) xs) (length-map xs (λ x. x % (top + 1)) ∙ long) (λ k h. get_or-map (λ x. x % (top + 1)) xs k 0 0 (omega arith))
 
 none_of : (f : ℕ → ℕ) (xs ys : List ℕ) → list_all (λ (p : ℕ × ℕ). leb (f p.0) (f p.1)) (zip xs ys) ≡ none_higher (map f xs) (map f ys)
 none_of f [] ys = refl

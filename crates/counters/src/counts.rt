@@ -18,6 +18,7 @@ use std::marker::PhantomData;
 use words::fault::Fault;
 use words::reader::Reader;
 use words::refusal::Refusal;
+use words::word::STATIONS;
 
 // The largest amount of a report.
 const MOST: u32 = 65_535;
@@ -155,7 +156,7 @@ impl<K: CountKind> Crdt for Counts<K> {
         into: &mut Counts<K>,
     ) -> Result<(), Refusal> {
         into.counts = [0; 16];
-        if station > 15 {
+        if station >= STATIONS {
             return Err(Refusal::Station);
         }
         let amount = K::amount(report);

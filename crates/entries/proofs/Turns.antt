@@ -1,10 +1,10 @@
--- The turns of the loops that size and write a row. Assumes nothing.
-use Rattle.std.proofs.Common.{◌≡◌, ℕ, zero, suc, ◌+◌, ◌-◌, ◌%◌, ◌<◌, ◌≤◌, List, [], ◌∷◌, ◌++◌, length, get_or, drop, set, replicate, sym, refl, ap, ◌∙◌, subst, arith, length-append, length-set}
-use Rattle.std.proofs.lemmas.List.{drop_more, drop_all}
+-- The size of a row, and the turns of the loop that writes it. Assumes nothing.
+use Rattle.std.proofs.Common.{◌≡◌, ℕ, zero, suc, ◌+◌, ◌-◌, ◌%◌, ◌<◌, ◌≤◌, Bool, true, false, not, cond, eqb, List, [], ◌∷◌, ◌++◌, length, get_or, drop, set, replicate, map, filter, sym, refl, ap, ◌∙◌, subst, arith, length-append, length-set}
+use Rattle.std.proofs.lemmas.List.{drop_more, drop_all, length-map, get_or-map}
 use Rattle.std.proofs.lemmas.Bool.{eq-eqb, ne_eqb, cond-true, cond-false}
 use Rattle.words.specs.Writes.{put}
 use Rattle.words.proofs.Writes.{put_step, put_last}
-use Rattle.entries.specs.Sixteen.{getD_tabulated}
+use Rattle.entries.specs.Sixteen.{getD_tabulated, tabulated_is}
 use Rattle.entries.specs.Rows.{same_row, length_row, row_of, empty}
 use Rattle.entries.specs.Entries.{entry_word, end_word, entries, entries_and_end}
 use Rattle.entries.proofs.Scans.{tabulated_same}
@@ -52,24 +52,25 @@ module _ (k top : ℕ) (xs : List ℕ) (i : ℕ) where
       let n : seen + 0 ≡ seen = omega arith in
       ap (λ ws. ws ++ (end_word (seen + length ws) ∷ [])) (left_none past) ∙ ap (λ m. end_word m ∷ []) n
 
--- a row is being sized: n words so far, with the end word
-pub record Sizing (k top : ℕ) (xs : List ℕ) (i n : ℕ) : Type 0 where
-  pub few : n ≤ i + 1
-  pub all : n + length (entries k i (drop i (row_of top xs).numbers)) ≡ 1 + length (entries k 0 (row_of top xs).numbers)
+-- the numbers of the row that sixteen stored numbers stand for
+pub numbers_of : (top : ℕ) (xs : List ℕ) → length xs ≡ 16 → map (λ x. x % (top + 1)) xs ≡ (row_of top xs).numbers
+numbers_of top xs long = tabulated_is _ (map (λ x. x % (top + 1)) xs) (length-map xs (λ x. x % (top + 1)) ∙ long) (λ k h. get_or-map (λ x. x % (top + 1)) xs k 0 0 (omega arith))
 
-module _ (k top : ℕ) (xs : List ℕ) (i n : ℕ) (so : Sizing k top xs i n) where
-  pub sizing_skip : i < 16 → get_or xs i 0 % (top + 1) ≡ 0 → Sizing k top xs (i + 1) n
-  sizing_skip low none = let e = ap length (left_skip k top xs i low none) in let a = so.all in let f = so.few in record { few = omega arith; all = omega arith }
+-- as many stand for a number other than 0 as there are entries
+one_more : (zero : Bool) (x w : ℕ) (ys zs : List ℕ) → length ys ≡ length zs → length (cond (not zero) (x ∷ ys) ys) ≡ length (cond zero zs (w ∷ zs))
+one_more true x w ys zs e = e
+one_more false x w ys zs e = ap suc e
 
-  pub sizing_take : i < 16 → (get_or xs i 0 % (top + 1) ≡ 0 → ⊥) → Sizing k top xs (i + 1) (n + 1)
-  sizing_take low some = let e = ap length (left_take k top xs i low some) in let a = so.all in let f = so.few in record { few = omega arith; all = omega arith }
+filtered : (k i top : ℕ) (xs : List ℕ) → length (filter (λ x. not (eqb (x % (top + 1)) 0)) xs) ≡ length (entries k i (map (λ x. x % (top + 1)) xs))
+filtered k i top [] = refl
+filtered k i top (x ∷ xs) = one_more (eqb (x % (top + 1)) 0) x (entry_word k i (x % (top + 1))) _ _ (filtered k (i + 1) top xs)
 
-  pub sized : 16 ≤ i → n ≡ length (entries_and_end k 0 0 (row_of top xs).numbers)
-  sized past =
-      let e = ap length (left_none k top xs i past) in
-      let a = so.all in
-      let s = length-append (entries k 0 (row_of top xs).numbers) (end_word (0 + length (entries k 0 (row_of top xs).numbers)) ∷ []) in
-      omega arith
+pub row_sized : (k top : ℕ) (xs : List ℕ) → length xs ≡ 16 → 1 + length (filter (λ x. not (eqb (x % (top + 1)) 0)) xs) ≡ length (entries_and_end k 0 0 (row_of top xs).numbers)
+row_sized k top xs long =
+    let es = entries k 0 (row_of top xs).numbers in
+    let e = filtered k 0 top xs ∙ ap (λ ns. length (entries k 0 ns)) (numbers_of top xs long) in
+    let s = length-append es (end_word (0 + length es) ∷ []) in
+    omega arith
 
 -- a row is being written: what is left, put where the loop stands, leaves what all of it would at the place
 pub record Writing (k top : ℕ) (xs old : List ℕ) (place : ℕ) (cur : List ℕ) (next seen i : ℕ) : Type 0 where

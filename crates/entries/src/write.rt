@@ -15,13 +15,7 @@ pub fn size<K: EntryKind>(row: &[u32; 16]) -> usize
     ensures value { result ≡ length (row_written (kind_number K.WORD) (row_of K.TOP row.now)) }
     ensures bound { result ≤ 17 }
 {
-    let mut n: usize = 1;
-    for stored in row {
-        if K::low(*stored) != 0 {
-            n += 1;
-        }
-    }
-    n
+    1 + row.iter().filter(|stored| K::low(**stored) != 0).count()
 }
 
 // Writes a row at a place, and answers the place after it.

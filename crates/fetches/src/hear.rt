@@ -1,5 +1,5 @@
 // What one station makes of a message.
-ghost use Rattle.std.specs.Prelude.{◌≡◌, ◌≤◌};
+ghost use Rattle.std.specs.Prelude.{◌≡◌};
 ghost use Rattle.words.specs.Readings.{told};
 ghost use Rattle.words.specs.Refusals.{bare, value_or};
 ghost use Rattle.counters.specs.Counts.{clock_of};
@@ -15,16 +15,17 @@ use crdt::kind::Crdt;
 use messages::header::Header;
 use messages::unpack::unpack;
 use stations::station::Station;
+use wire::span::Span;
 use words::fault::{Fault, Layer};
 use words::refusal::Refusal;
+use words::word::STATIONS;
 
-// Raises the count of a station to another where it is lower.
-fn raise(clock: &mut VectorClock, station: usize, to: u32)
-    requires { to ≤ 65535 }
-    ensures { clock_of clock.new.counts ≡ raised (clock_of clock.old.counts) station to }
+// Raises the count of a station to the end of a span where it is lower.
+fn raise(clock: &mut VectorClock, station: usize, span: Span)
+    ensures { clock_of clock.new.counts ≡ raised (clock_of clock.old.counts) station span.to }
 {
-    if station < 16 && clock.count(station) < to {
-        clock.counts[station] = to;
+    if station < STATIONS && clock.count(station) < span.to {
+        clock.counts[station] = span.to;
     }
 }
 
@@ -60,7 +61,7 @@ fn hear<C: Crdt>(
                     layer: Layer::Station,
                 });
             }
-            raise(&mut station.clock, sender, span.to);
+            raise(&mut station.clock, sender, span);
             station.record.join(record);
             Ok(())
         }

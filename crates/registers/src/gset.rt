@@ -14,6 +14,7 @@ use entries::write::{size, write};
 use words::fault::Fault;
 use words::reader::Reader;
 use words::refusal::Refusal;
+use words::word::STATIONS;
 
 // Entry c has bit b where 16 * c + b is a member. A stored entry stands for its low 16 bits.
 #[derive(Clone, Copy)]
@@ -98,7 +99,7 @@ impl Crdt for GSet {
         ensures members { Only (is_ok result) report.0 (members_of into.new.bits) }
     {
         into.bits = [0; 16];
-        if station > 15 {
+        if station >= STATIONS {
             return Err(Refusal::Station);
         }
         if report.0 > 255 {

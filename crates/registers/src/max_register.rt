@@ -7,7 +7,7 @@ use crdt::kind::Crdt;
 use words::fault::Fault;
 use words::reader::Reader;
 use words::refusal::Refusal;
-use words::word::{Word, WordKind};
+use words::word::{STATIONS, Word, WordKind};
 
 // One more than the largest value.
 const LIMIT: u32 = 0x1000_0000;
@@ -75,7 +75,7 @@ impl Crdt for MaxRegister {
         into: &mut MaxRegister,
     ) -> Result<(), Refusal> {
         into.stored = 0;
-        if station > 15 {
+        if station >= STATIONS {
             return Err(Refusal::Station);
         }
         if report.0 >= LIMIT {

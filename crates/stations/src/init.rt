@@ -8,10 +8,10 @@ ghost use Rattle.stations.specs.Stored.{station_of, stations_of};
 ghost use Rattle.stations.specs.Tables.{init_answer, all_fresh};
 
 use crate::station::Station;
-use crate::table::MOST;
 use counters::vector_clock::VectorClock;
 use crdt::kind::Crdt;
 use words::refusal::Refusal;
+use words::word::STATIONS;
 
 impl<C: Crdt> Station<C> {
     // The station of a number before its first call.
@@ -36,7 +36,7 @@ pub fn init<C: Crdt>(stations: &mut [Station<C>]) -> Result<(), Refusal>
     ensures promised { OnOk result (PromisedFrom C.Crdt (stations_of C.Crdt stations.new)) }
     ensures refused { Kept result stations.old stations.new }
 {
-    if stations.is_empty() || stations.len() > MOST {
+    if stations.is_empty() || stations.len() > STATIONS {
         return Err(Refusal::Station);
     }
     for (i, station) in stations.iter_mut().enumerate() {

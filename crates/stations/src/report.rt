@@ -9,10 +9,8 @@ ghost use Rattle.stations.specs.Tables.{Others};
 use crate::station::Station;
 use crate::table::find;
 use crdt::kind::Crdt;
+use entries::kind::{Clock, EntryKind};
 use words::refusal::Refusal;
-
-// The most reports of a station.
-const MOST: u32 = 65_535;
 
 impl<C: Crdt> Station<C> {
     // Takes in the delta of a report, and counts it.
@@ -24,7 +22,7 @@ impl<C: Crdt> Station<C> {
         ensures refused { Kept result self.old self.new }
     {
         let own = self.clock.count(self.number);
-        if own >= MOST {
+        if own >= Clock::TOP {
             return Err(Refusal::Spent);
         }
         let mut delta = C::bottom();

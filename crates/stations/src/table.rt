@@ -6,9 +6,7 @@ ghost use Rattle.stations.specs.Stored.{station_at, Here};
 use crate::station::Station;
 use crdt::kind::Crdt;
 use words::refusal::Refusal;
-
-// The most stations of a table.
-pub(crate) const MOST: usize = 16;
+use words::word::STATIONS;
 
 // Whether a table of at most 16 has a station s that bears its number.
 // The answer holds no station: no contract can say what a table becomes by a write through a `&mut` in a Result.
@@ -16,7 +14,7 @@ pub fn find<C: Crdt>(stations: &[Station<C>], s: usize) -> Result<(), Refusal>
     ensures answer { numbered result ≡ bare (station_at C.Crdt stations.now s) }
     ensures here { OnOk result (Here stations.now s) }
 {
-    if stations.len() > MOST || s >= stations.len() {
+    if stations.len() > STATIONS || s >= stations.len() {
         return Err(Refusal::Station);
     }
     if stations[s].number != s {

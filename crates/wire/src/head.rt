@@ -9,7 +9,7 @@ ghost use Rattle.wire.specs.Answers.{word_told};
 use words::fault::Fault;
 use words::reader::Reader;
 use words::refusal::Refusal;
-use words::word::{LONGEST, Word, WordKind};
+use words::word::{LONGEST, STATIONS, Word, WordKind};
 
 // The fewest words of a message.
 const FEWEST: usize = 2;
@@ -18,7 +18,7 @@ const FEWEST: usize = 2;
 pub fn make(kind: WordKind, sender: usize, size: usize, room: usize) -> Result<Word, Refusal>
     ensures { word_told result ≡ head_made (kind_number kind) sender size room }
 {
-    if sender > 15 {
+    if sender >= STATIONS {
         return Err(Refusal::Station);
     }
     if size > LONGEST {
@@ -41,7 +41,7 @@ pub fn check(reader: &Reader) -> Result<Word, Fault>
     if !word.is_well_formed() {
         return Err(reader.fault(Refusal::Form));
     }
-    let size = (word.0 % 256) as usize;
+    let size = word.length();
     let given = reader.words.len() - reader.place;
     if size != given || !(FEWEST..=LONGEST).contains(&size) {
         return Err(reader.fault(Refusal::Length));

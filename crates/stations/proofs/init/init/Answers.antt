@@ -17,8 +17,8 @@ returns g c =
     let k = g.met.C.Crdt in
     let all = fresh_all g.C.Crdt c.loop-i.stations 0 (λ k d h. c.loop-i.invariant k d (omega arith) ∙ ap (fresh g.C.Crdt) (omega arith)) ∙ ap (all_fresh g.C.Crdt 0) c.loop-i.auto.stations in
     record {
-      answer = sym (cond-false _ _ _ (sym c.if-is_empty.ensures) ∙ cond-false _ _ _ (le-ltb 16 n c.if-stations-gt-MOST.false));
+      answer = sym (cond-false _ _ _ (sym c.if-is_empty.ensures) ∙ cond-false _ _ _ (le-ltb 16 n c.if-stations-gt-STATIONS.false));
       fresh = all;
-      promised = begins g.C.Crdt (laws_of g.C.Crdt k.assoc k.comm k.idem k.neutral k.reads k.exact) _ n c.if-stations-gt-MOST.false all;
+      promised = begins g.C.Crdt (laws_of g.C.Crdt k.assoc k.comm k.idem k.neutral k.reads k.exact) _ n c.if-stations-gt-STATIONS.false all;
       refused = tt;
     }

@@ -2,7 +2,7 @@ use Rattle.std.proofs.Common.{rules, ◌≡◌, ◌+◌, ◌%◌, ◌^◌, ◌�
 use Rattle.std.proofs.lemmas.Iterator.{YieldsList-from_slice, YieldsList-from_map}
 use Rattle.std.proofs.lemmas.Iterator.Consumers.{sum_from_yields_List}
 use Rattle.std.proofs.lemmas.Iterator.Adapters.{fits_from_length, at_most_from_yields_List}
-use Rattle.counters.proofs.Orders.{numbers_of}
+use Rattle.entries.proofs.Turns.{numbers_of}
 use Rattle.counters.proofs.counts.Counts.total.Goals as goal
 
 pub sum-requires-clause-fits : goal.sum-requires-clause-fits

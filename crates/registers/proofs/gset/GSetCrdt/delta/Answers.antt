@@ -8,28 +8,28 @@ use Rattle.registers.specs.Sets.{has_none, has_alone, zeros_none, stored_alone}
 use Rattle.registers.proofs.gset.GSetCrdt.delta.Goals as goal
 
 module _ (v : Members) (s : ℕ) (r : Member) where
-  no_station : 15 < s → set_reported v s r ≡ Err 1
+  no_station : 16 ≤ s → set_reported v s r ≡ Err 1
   no_station h = cond-true _ _ _ (lt-ltb 15 s h)
 
-  no_member : s ≤ 15 → 255 < r.0 → set_reported v s r ≡ Err 2
-  no_member h l = cond-false _ _ _ (le-ltb 15 s h) ∙ cond-true _ _ _ (lt-ltb 255 r.0 l)
+  no_member : s < 16 → 255 < r.0 → set_reported v s r ≡ Err 2
+  no_member h l = cond-false _ _ _ (le-ltb 15 s (omega arith)) ∙ cond-true _ _ _ (lt-ltb 255 r.0 l)
 
-  a_member : s ≤ 15 → r.0 ≤ 255 → set_reported v s r ≡ Ok (alone r.0)
-  a_member h l = cond-false _ _ _ (le-ltb 15 s h) ∙ cond-false _ _ _ (le-ltb 255 r.0 l)
+  a_member : s < 16 → r.0 ≤ 255 → set_reported v s r ≡ Ok (alone r.0)
+  a_member h l = cond-false _ _ _ (le-ltb 15 s (omega arith)) ∙ cond-false _ _ _ (le-ltb 255 r.0 l)
 
-pub returns-then-station-gt15 : goal.returns-then-station-gt15
-returns-then-station-gt15 c =
-    let is = no_station (members_of c.args.self.now.bits) c.args.station c.args.report c.if-station-gt15.true in
+pub returns-then-station-ge-STATIONS : goal.returns-then-station-ge-STATIONS
+returns-then-station-ge-STATIONS c =
+    let is = no_station (members_of c.args.self.now.bits) c.args.station c.args.report c.if-station-ge-STATIONS.true in
     record { answer = sym (ap bare is); into = zeros_none ∙ sym (ap (value_or none) is); members = (λ m. ap (λ v. has v m) zeros_none ∙ has_none m) }
 
 pub returns-then-report-gt255 : goal.returns-then-report-gt255
 returns-then-report-gt255 c =
-    let is = no_member (members_of c.args.self.now.bits) c.args.station c.args.report c.if-station-gt15.false c.if-report-gt255.true in
+    let is = no_member (members_of c.args.self.now.bits) c.args.station c.args.report c.if-station-ge-STATIONS.false c.if-report-gt255.true in
     record { answer = sym (ap bare is); into = zeros_none ∙ sym (ap (value_or none) is); members = (λ m. ap (λ v. has v m) zeros_none ∙ has_none m) }
 
 pub returns : goal.returns
 returns c =
-    let is = a_member (members_of c.args.self.now.bits) c.args.station c.args.report c.if-station-gt15.false c.if-report-gt255.false in
+    let is = a_member (members_of c.args.self.now.bits) c.args.station c.args.report c.if-station-ge-STATIONS.false c.if-report-gt255.false in
     let n = c.args.report.0 in
     let shifted = one_shl (n % 16) 32 (omega arith) in
     let low : n < 256 = omega arith in
