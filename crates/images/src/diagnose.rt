@@ -33,7 +33,7 @@ fn past_zeros(bytes: &[u8], from: usize) -> usize
 fn is_right_head(head: Word) -> bool
     ensures { result ≡ right_head head.0 }
 {
-    head.is(WordKind::PageHead) && head.is_well_formed() && is_sized((head.0 % 256) as usize)
+    head.is(WordKind::PageHead) && head.is_well_formed() && is_sized(head.length())
 }
 
 // Whether the head of a page is right when its bytes are read in the other order.
@@ -53,7 +53,7 @@ fn cause_of(head: Word, after_empty: bool) -> Cause
         Cause::Kind
     } else if !head.is_well_formed() {
         Cause::ZeroBits
-    } else if !is_sized((head.0 % 256) as usize) {
+    } else if !is_sized(head.length()) {
         Cause::Length
     } else if after_empty {
         Cause::AfterEmpty
@@ -71,7 +71,7 @@ fn wrong_byte(cause: Cause, page: &[u8; PAGE]) -> usize
         // The bits that must be zero are in bytes 1, 2 and 3.
         Cause::ZeroBits => past_zeros(&page[0..3], 1),
         Cause::Length | Cause::AfterEmpty => 0,
-        Cause::AfterWords => past_zeros(page, 4 + 4 * (head_of(page).0 % 256) as usize),
+        Cause::AfterWords => past_zeros(page, 4 + 4 * head_of(page).length()),
         Cause::EmptyPage => past_zeros(page, 0),
     }
 }
