@@ -21,7 +21,7 @@ use words::word::{Word, WordKind};
 fn past_zeros(bytes: &[u8], from: usize) -> usize
     ensures { result ≡ past_zeros from bytes.now }
 {
-    // A loop: of `skip`, `take_while` and `count` in a row the search did not prove the count.
+    // A loop: of `skip`, `take_while` and `count` in a row, and of `get` and `position`, the search did not prove the count.
     let mut place = from;
     while place < bytes.len() && bytes[place] == 0 {
         place += 1;
@@ -110,12 +110,9 @@ pub fn diagnose(bytes: &[u8]) -> Option<Diagnosis>
     ensures foreign { IfSome result (λ d. Foreign bytes.now d.fault.place (number_of d.fault.refusal) d.foreign) }
     ensures turned { TurnedFound bytes.now (option_map told_diagnosis result) }
 {
-    // A match: under `map` the closure would have to ask for what is known of the fault here.
-    match PageMailbox::check(bytes) {
-        Ok(_) => None,
-        Err(fault) => match fault.refusal {
-            Refusal::Memory => None,
-            _ => Some(explain(bytes, fault)),
-        },
+    let fault = PageMailbox::check(bytes).err()?;
+    match fault.refusal {
+        Refusal::Memory => None,
+        _ => Some(explain(bytes, fault)),
     }
 }

@@ -110,10 +110,10 @@ impl<'a> PageMailbox<'a> {
         ensures memory { memory_of result ≡ bytes.old }
         ensures lender { result.bytes.ghost_name ≡ bytes.entry.ghost_name }
     {
-        let (pages, held) = match PageMailbox::check(bytes) {
-            Ok(held) => (bytes.len() / PAGE, held),
-            Err(_) => (0, 0),
-        };
+        let (pages, held) = PageMailbox::check(bytes).map_or(
+            (0, 0),
+            |held| (bytes.len() / PAGE, held),
+        );
         PageMailbox { bytes, pages, held }
     }
 
