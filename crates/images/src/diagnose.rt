@@ -21,7 +21,7 @@ use words::word::{Word, WordKind};
 fn past_zeros(bytes: &[u8], from: usize) -> usize
     ensures { result ≡ past_zeros from bytes.now }
 {
-    // A loop: of `skip`, `take_while` and `count` in a row the search did not prove the count.
+    // A loop: of `skip`, `take_while` and `count` in a row, and of `get` and `position`, the search did not prove the count.
     let mut place = from;
     while place < bytes.len() && bytes[place] == 0 {
         place += 1;
@@ -33,7 +33,7 @@ fn past_zeros(bytes: &[u8], from: usize) -> usize
 fn is_right_head(head: Word) -> bool
     ensures { result ≡ right_head head.0 }
 {
-    head.is(WordKind::PageHead) && head.is_well_formed() && is_sized((head.0 % 256) as usize)
+    head.is(WordKind::PageHead) && head.is_well_formed() && is_sized(head.length())
 }
 
 // Whether the head of a page is right when its bytes are read in the other order.
@@ -53,7 +53,7 @@ fn cause_of(head: Word, after_empty: bool) -> Cause
         Cause::Kind
     } else if !head.is_well_formed() {
         Cause::ZeroBits
-    } else if !is_sized((head.0 % 256) as usize) {
+    } else if !is_sized(head.length()) {
         Cause::Length
     } else if after_empty {
         Cause::AfterEmpty
@@ -71,7 +71,7 @@ fn wrong_byte(cause: Cause, page: &[u8; PAGE]) -> usize
         // The bits that must be zero are in bytes 1, 2 and 3.
         Cause::ZeroBits => past_zeros(&page[0..3], 1),
         Cause::Length | Cause::AfterEmpty => 0,
-        Cause::AfterWords => past_zeros(page, 4 + 4 * (head_of(page).0 % 256) as usize),
+        Cause::AfterWords => past_zeros(page, 4 + 4 * head_of(page).length()),
         Cause::EmptyPage => past_zeros(page, 0),
     }
 }
@@ -110,12 +110,9 @@ pub fn diagnose(bytes: &[u8]) -> Option<Diagnosis>
     ensures foreign { IfSome result (λ d. Foreign bytes.now d.fault.place (number_of d.fault.refusal) d.foreign) }
     ensures turned { TurnedFound bytes.now (option_map told_diagnosis result) }
 {
-    // A match: under `map` the closure would have to ask for what is known of the fault here.
-    match PageMailbox::check(bytes) {
-        Ok(_) => None,
-        Err(fault) => match fault.refusal {
-            Refusal::Memory => None,
-            _ => Some(explain(bytes, fault)),
-        },
+    let fault = PageMailbox::check(bytes).err()?;
+    match fault.refusal {
+        Refusal::Memory => None,
+        _ => Some(explain(bytes, fault)),
     }
 }

@@ -9,6 +9,9 @@ use words::word::{Word, WordKind};
 // The bytes of a page.
 pub const PAGE: usize = 512;
 
+// The most bytes of a mailbox.
+pub const LARGEST: usize = 65_536;
+
 // The head of a page.
 pub fn head_of(page: &[u8; PAGE]) -> Word
     ensures { result.0 ≡ word_at page.now 0 }
@@ -45,8 +48,9 @@ pub(crate) fn unpack(page: &[u8; PAGE], words: &mut [u32]) -> usize
     ensures size { result ≡ length (page_message page.now) }
     ensures words { words.new ≡ put words.old 0 (page_message page.now) }
 {
-    let n = (head_of(page).0 % 256) as usize;
+    let n = head_of(page).length();
     let (quads, _) = page.as_chunks();
+    // By their places: what is written through `iter_mut` is not known after the loop.
     for (i, quad) in quads[1..1 + n].iter().enumerate() {
         words[i] = u32::from_le_bytes(*quad);
     }

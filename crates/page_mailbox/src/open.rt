@@ -8,7 +8,7 @@ ghost use Rattle.layouts.specs.Images.{Written, ImagesAccepted};
 ghost use Rattle.page_mailbox.specs.Stores.{memory_of, waiting_of};
 
 use crate::PageMailbox;
-use crate::bytes::{PAGE, head_of, is_zero};
+use crate::bytes::{LARGEST, PAGE, head_of, is_zero};
 use mailboxes::mailbox::is_sized;
 use words::fault::{Fault, Layer};
 use words::refusal::Refusal;
@@ -28,7 +28,7 @@ fn fault(refusal: Refusal, place: usize) -> Fault
 fn is_paged(size: usize) -> bool
     ensures { result ≡ paged size }
 {
-    size != 0 && size <= 65_536 && size % PAGE == 0
+    size != 0 && size <= LARGEST && size % PAGE == 0
 }
 
 // Whether a page is one of a message, or else an empty one. `seen` is whether an empty page came before it.
@@ -46,7 +46,7 @@ fn check_page(page: &[u8; PAGE], place: usize, seen: bool) -> Result<bool, Fault
     if !head.is(WordKind::PageHead) {
         return Err(fault(Refusal::Kind, place));
     }
-    let n = (head.0 % 256) as usize;
+    let n = head.length();
     if seen || !head.is_well_formed() || !is_sized(n) {
         return Err(fault(Refusal::Form, place));
     }
@@ -110,10 +110,10 @@ impl<'a> PageMailbox<'a> {
         ensures memory { memory_of result ≡ bytes.old }
         ensures lender { result.bytes.ghost_name ≡ bytes.entry.ghost_name }
     {
-        let (pages, held) = match PageMailbox::check(bytes) {
-            Ok(held) => (bytes.len() / PAGE, held),
-            Err(_) => (0, 0),
-        };
+        let (pages, held) = PageMailbox::check(bytes).map_or(
+            (0, 0),
+            |held| (bytes.len() / PAGE, held),
+        );
         PageMailbox { bytes, pages, held }
     }
 

@@ -21,7 +21,7 @@ impl WordMailbox<'_> {
         // A loop: each place is where the message before it ends, and a fold's closure does not know that it is within the words.
         let mut place = 0;
         for _i in 0..k {
-            place += (self.words[place] % 256) as usize + 1;
+            place += Word(self.words[place]).length() + 1;
         }
         place
     }
@@ -35,7 +35,7 @@ impl WordMailbox<'_> {
         ensures within { result.end ≤ self.now.used }
     {
         let start = self.place(k);
-        start..start + 1 + (self.words[start] % 256) as usize
+        start..start + 1 + Word(self.words[start]).length()
     }
 }
 

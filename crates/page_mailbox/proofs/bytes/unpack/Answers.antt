@@ -9,14 +9,14 @@ use Rattle.layouts.proofs.PageBytes.{words_of_at, word_at_drop, word_after}
 use Rattle.page_mailbox.proofs.bytes.unpack.Goals as goal
 use Rattle.page_mailbox.proofs.bytes.unpack.Goals.{After-as_chunks}
 
-size-is : (c : goal.After-as_chunks) → c.head_of.result.0 % 256 ≡ page_length c.args.page.now
-size-is c = ap (λ x. x % 256) c.head_of.ensures
+size-is : (c : goal.After-as_chunks) → c.length-n.result ≡ page_length c.args.page.now
+size-is c = c.length-n.ensures.value ∙ ap (λ x. x % 256) c.head_of.ensures
 
-few : (c : goal.After-as_chunks) → c.head_of.result.0 % 256 ≤ 127
+few : (c : goal.After-as_chunks) → c.length-n.result ≤ 127
 few c = omega (arith, size-is c, full_length c.args.page.now c.requires.full)
 
 -- as many words are read as the message has
-all-read : (c : goal.After-as_chunks) → length (take (1 + c.head_of.result.0 % 256 - 1) (drop 1 c.as_chunks.result.0.now)) ≡ c.head_of.result.0 % 256
+all-read : (c : goal.After-as_chunks) → length (take (1 + c.length-n.result - 1) (drop 1 c.as_chunks.result.0.now)) ≡ c.length-n.result
 all-read c = let f = few c in simp (length-take, length-drop) (omega (arith, c.as_chunks.ensures.front_len))
 
 pub loop-i-preserved : goal.loop-i-preserved
@@ -29,7 +29,7 @@ loop-i-preserved c =
     let s = page_message page in
     let f = few at in
     let e = size-is at in
-    let lt : i < c.head_of.result.0 % 256 = omega (arith, all-read at, c.loop-i-test.true) in
+    let lt : i < c.length-n.result = omega (arith, all-read at, c.loop-i-test.true) in
     let g : c.from_le_bytes.result ≡ get_or s i 0 = c.from_le_bytes.ensures ∙ word_after page _ _ _ _ i c.as_chunks.ensures.front lt (omega arith) ∙ sym (words_of_at n i (drop 4 page) (omega arith) ∙ word_at_drop page 4 (4 * i) (4 + 4 * i) refl) in
     let ls = length_words_of n (drop 4 page) in
     let a : 0 + i < length words = omega (arith, c.requires.room) in
