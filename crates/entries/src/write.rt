@@ -31,6 +31,7 @@ pub fn write<K: EntryKind>(
     if words.len().saturating_sub(place) < all {
         return Err(Refusal::Room);
     }
+    // The place and the entries are counted: only what is not 0 is written.
     let mut next = place;
     let mut seen: u32 = 0;
     for (i, stored) in row.iter().enumerate() {

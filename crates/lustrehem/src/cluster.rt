@@ -133,7 +133,7 @@ fn obey<C: Recorded, M: Imaged, W: Write>(
     }
 }
 
-// The call that a line asks for, where it is one that every record kind has.
+// The call that a line asks for, where it is one that every record kind has. A match: lines and calls do not know each other.
 fn plain<R>(command: Command) -> Option<Call<R>>
     ensures { result ≡ plain_of command }
 {

@@ -1,14 +1,11 @@
 // Reading scripts and card images.
 use crate::failure::{Failure, Unfit};
-use page_mailbox::bytes::PAGE;
+use page_mailbox::bytes::{LARGEST, PAGE};
 use std::fs::File;
 use std::io::Read;
 
 // The most bytes of a script.
 const LONGEST: usize = 16_777_216;
-
-// The most bytes of a card image.
-const LARGEST: usize = 65_536;
 
 // A file of 1 to so many bytes, or standard input for "-".
 fn read(rt: &HostRuntime, name: &str, most: usize) -> Result<Vec<u8>, Unfit> {

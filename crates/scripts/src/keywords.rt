@@ -40,7 +40,7 @@ pub enum Kind {
 }
 
 // What single words of the grammar mean.
-// a `match`, and no table: only two of the five kinds are printed, and printing would search the table
+// Each impl is one `match`, which is its table: a table of pairs would be searched by hand.
 pub(crate) trait Keyword: Drop {
     // Each word with its meaning.
     ghost names: { List (List ℕ × Self) };

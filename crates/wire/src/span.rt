@@ -15,6 +15,7 @@ impl Span {
         ensures some { is_some result ≡ (nat_lt from to && nat_le to 65535) }
         ensures value { IfSome result (λ s. (s.from ≡ from) × (s.to ≡ to)) }
     {
+        // An `if`: a span's invariant has to be known where it is made.
         if from < to && to <= 65_535 {
             Some(Span { from, to })
         } else {

@@ -60,6 +60,7 @@ impl<'a> Mailbox for WordMailbox<'a> {
         ensures memory { memory_of self.new ≡ row_put (takes_of self.old (length message.now)) (waiting_of self.old) message.now (memory_of self.old) }
         ensures lender { self.new.words.ghost_name ≡ self.old.words.ghost_name }
     {
+        // The refusals of every mailbox, in their order. Each store has them itself: they ask for what it holds and takes.
         let n = message.len();
         if !is_sized(n) {
             return Err(Refusal::Long);

@@ -17,7 +17,7 @@ pub enum Layer {
     Station,
 }
 
-// The place is that of the wrong word, or 0 where there is none.
+// The place is that of the wrong word, or 0 where there is none: a number, since that is how every fault is told.
 #[derive(Clone, Copy, PartialEq, Eq, Debug)]
 pub struct Fault {
     pub refusal: Refusal,
