@@ -15,6 +15,8 @@ pub type CardRecord = Pair<Pair<GCounter, Pair<GCounter, GCounter>>, Pair<GSet, 
 // A report on a card record.
 pub type CardReport = Either<Either<Amount, Either<Amount, Amount>>, Either<Member, Revision>>;
 
+// A function for each report: which counter it goes to is all that it says.
+
 // Blocks were erased.
 pub fn erased(amount: Amount) -> CardReport
     ensures { result ≡ Left (Left amount) }

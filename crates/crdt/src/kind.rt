@@ -46,7 +46,7 @@ pub trait Crdt: Copy {
     fn size(&self) -> usize
         ensures { result ≡ capped (length (written (value self.now))) };
 
-    // Writes it at a place, and answers the place after it.
+    // Writes it at a place, and answers the place after it. Words and place stay two: they are the caller's, and go on without a writer.
     fn write(&self, words: &mut [u32], place: usize) -> Result<usize, Refusal>
         ensures answer { numbered result ≡ write_answer (length words.old) place (length (written (value self.now))) }
         ensures words { words.new ≡ write_leaves words.old place (written (value self.now)) };

@@ -29,6 +29,7 @@ pub fn fetch<C: Crdt, M: Mailbox>(
     ensures refused { Kept result stations.old stations.new }
     ensures words { words.new ≡ fetch_leaves (station_at C.Crdt stations.old s) (M.Mailbox.waiting mailbox.now) k words.old }
 {
+    // Each fault is put together where it is made: a function for it would be given the same three.
     find(stations, s).map_err(|refusal| FetchFault {
         station: s,
         message: k,

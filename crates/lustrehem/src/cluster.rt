@@ -57,7 +57,7 @@ pub(crate) fn serve<C: Recorded, M: Imaged, W: Write>(
         announce(script.out, opening, mailbox)?;
     }
     let mut words = [0; LONGEST];
-    // A count, since a loop has to end: no text has more lines.
+    // A count, since a loop has to end: for a measure `next`, `obey` and all that they call would have to say how much text is left.
     for _ in 0..usize::MAX {
         match script.next()? {
             Some(command @ (Command::Record(_) | Command::Stations(_) | Command::Mailbox(_))) =>
@@ -113,7 +113,7 @@ fn obey<C: Recorded, M: Imaged, W: Write>(
                 let asked = Call::Report { station, report };
                 make(script.out, command, table, mailbox, &asked, words)
             }
-            None => script.misunderstood(C::reportable()),
+            None => script.misunderstood(C::REPORTABLE),
         },
         Command::Put => put(script.out, mailbox, script.words.as_slice()),
         Command::Show { station } => {

@@ -15,7 +15,7 @@ pub(crate) trait Recorded: Crdt {
     fn reported(what: What, value: u32) -> Option<Self::Report>;
 
     // What a line may report.
-    fn reportable() -> &'static str;
+    const REPORTABLE: &'static str;
 
     // Its counts, members and totals.
     fn show<W: fmt::Write>(&self, f: &mut fmt::Formatter<W>) -> fmt::Result;
@@ -33,9 +33,7 @@ impl Recorded for CardRecord {
         }
     }
 
-    fn reportable() -> &'static str {
-        "erased, taken, returned, retired or firmware"
-    }
+    const REPORTABLE: &'static str = "erased, taken, returned, retired or firmware";
 
     fn show<W: fmt::Write>(&self, f: &mut fmt::Formatter<W>) -> fmt::Result {
         let erased = CounterOf(&self.left.left);
@@ -61,9 +59,7 @@ impl Recorded for LoanRecord {
         }
     }
 
-    fn reportable() -> &'static str {
-        "lent or marked"
-    }
+    const REPORTABLE: &'static str = "lent or marked";
 
     fn show<W: fmt::Write>(&self, f: &mut fmt::Formatter<W>) -> fmt::Result {
         let lent = CounterOf(&self.left);

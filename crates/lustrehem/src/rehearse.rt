@@ -61,7 +61,7 @@ pub(crate) fn rehearse<'a, W: Write>(
     let mut script = Script::new(rt, out, text, image);
     let mut settings = Settings::first();
     let mut asked = None;
-    // A count, since a loop has to end: each turn but the last reads a line.
+    // A count, since a loop has to end; a measure would be said in more contracts, as in `serve`. Each turn but the last reads a line.
     for _ in 0..=text.len() {
         let next = match settings.record {
             RecordKind::Card => begin::<CardRecord, W>(rt.alloc(), &mut script, settings, asked)?,

@@ -71,7 +71,7 @@ impl<'a, W: Write> Script<'a, W> {
 
     // The next line that asks for something. Lines before it that are not understood are named.
     pub(crate) fn next(&mut self) -> io::Result<Option<Command>> {
-        // A count, since a loop has to end: each turn but the last reads a line.
+        // A count, since a loop has to end; a measure would be said in more contracts, as in `serve`. Each turn but the last reads a line.
         for _ in 0..=self.text.len() {
             let before = self.line;
             let Some(line) = self.next_line() else {

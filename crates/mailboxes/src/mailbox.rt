@@ -34,7 +34,7 @@ pub trait Mailbox {
         ensures after { waiting self.new ≡ put_leaves (takes self.old (length message.now)) (waiting self.old) message.now }
         ensures refused { Kept result self.old self.new };
 
-    // Copies message k to the front of the given words, and answers its length.
+    // Copies message k to the front of the given words, and answers its length: the words are the caller's, so it stands beside them.
     fn read(&self, k: usize, words: &mut [u32]) -> Result<usize, Refusal>
         ensures answer { numbered result ≡ read_answer (waiting self.now) k (length words.old) }
         ensures words { words.new ≡ read_leaves (waiting self.now) k words.old };

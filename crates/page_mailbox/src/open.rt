@@ -31,7 +31,8 @@ fn is_paged(size: usize) -> bool
     size != 0 && size <= LARGEST && size % PAGE == 0
 }
 
-// Whether a page is one of a message, or else an empty one. `seen` is whether an empty page came before it.
+// Whether a page is one of a message, or else an empty one: a `bool`, since nothing stands beside it. `seen` is whether an empty page came
+// before it.
 fn check_page(page: &[u8; PAGE], place: usize, seen: bool) -> Result<bool, Fault>
     ensures { told result ≡ page_check place seen page.now }
 {

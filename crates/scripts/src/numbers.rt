@@ -38,6 +38,7 @@ pub(crate) fn decimal(token: &[u8], top: usize) -> Option<usize>
     ensures value { result ≡ decimal_of top token.now }
     ensures bound { IfSome result (λ n. n ≤ top) }
 {
+    // `as` is proved to lose nothing; a `try_from` would add a failure that cannot be.
     number(token, 10, 20, top as u64).map(|n| n as usize)
 }
 
@@ -45,5 +46,6 @@ pub(crate) fn decimal(token: &[u8], top: usize) -> Option<usize>
 pub(crate) fn hexadecimal(token: &[u8]) -> Option<u32>
     ensures { result ≡ hexadecimal_of token.now }
 {
+    // `as` is proved to lose nothing here too.
     number(token, 16, 8, u64::from(u32::MAX)).map(|n| n as u32)
 }

@@ -54,6 +54,7 @@ fn report(tokens: &mut Tokens) -> Result<Command, Expected>
 {
     let station = tokens.number(usize::MAX, Expected::Station)?;
     let what = tokens.keyword(Expected::What)?;
+    // `as` is proved to lose nothing; a `try_from` would add a failure that cannot be.
     let value = tokens.number(u32::MAX as usize, Expected::Value)? as u32;
     Ok(Command::Report {
         station,

@@ -45,7 +45,7 @@ impl<'a> Mailbox for WordMailbox<'a> {
     ghost takes = { takes_of };
 
     fn count(&self) -> u16 {
-        self.held as u16
+        self.held as u16 // proved to lose nothing; a `try_from` would add a failure that cannot be
     }
 
     fn fits(&self, n: usize) -> bool {

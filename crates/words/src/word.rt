@@ -33,7 +33,7 @@ impl WordKind {
     }
 }
 
-// The bits that must be zero, by a word's kind.
+// The bits that must be zero, by a word's kind. A table: kinds that are not in use have an entry too.
 const ZERO_BITS: [u32; 16] = [
     0,
     0x00FF_FF00,
