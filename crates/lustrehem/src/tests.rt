@@ -100,7 +100,7 @@ fn the_task_is_told_as_written(rt: HostRuntime) -> Result<(), Fail> {
 #[test]
 fn lines_that_are_not_understood_change_nothing(rt: HostRuntime) {
     let mut out = Vec::new(rt.alloc());
-    let ended = rehearse(&rt, &mut out, SCRIPT.as_bytes(), &[]);
+    let ended = rehearse(&rt, &mut out, SCRIPT.as_bytes(), None);
     assert!(rt; out.as_slice() == ANSWERS.as_bytes());
     assert!(rt; matches!(ended, Err(Failure::NotUnderstood(5))));
 }
@@ -126,7 +126,7 @@ fn the_report_after_the_last_is_refused(rt: HostRuntime) -> Result<(), Fail> {
         script.extend_from_slice(b"report 0 erased 1\n")?;
     }
     let mut out = Vec::new(rt.alloc());
-    let ended = rehearse(&rt, &mut out, &script, &[]);
+    let ended = rehearse(&rt, &mut out, &script, None);
     let last = "report 0 erased 1: refused, 4 (all reports made)\n";
     assert!(rt; out.len() == 65_535 * 24 + last.len());
     assert!(rt; &out[65_535 * 24..] == last.as_bytes());
