@@ -80,7 +80,31 @@ pub(crate) fn rehearse<'a, W: Write>(
 #[derive(Drop)]
 enum Memory {
     Words(Vec<u32>),
-    Pages(Vec<u8>),
+    Pages(Pages),
+}
+
+// The bytes of pages, and what opening them does.
+#[derive(Drop)]
+enum Pages {
+    Wiped(Vec<u8>),
+    // A copy of the image.
+    Mounted(Vec<u8>),
+}
+
+impl Pages {
+    fn bytes(&self) -> &[u8] {
+        match self {
+            Pages::Wiped(bytes) | Pages::Mounted(bytes) => bytes,
+        }
+    }
+
+    // Pages that are wiped need no second check of their bytes.
+    fn open(&mut self) -> PageMailbox<'_> {
+        match self {
+            Pages::Wiped(bytes) => PageMailbox::wipe(bytes),
+            Pages::Mounted(bytes) => PageMailbox::mount(bytes),
+        }
+    }
 }
 
 impl Memory {
@@ -88,8 +112,8 @@ impl Memory {
     fn of(heap: Global, store: Store, image: Option<&[u8]>) -> Result<Memory, AllocError> {
         Ok(match store {
             Store::Words(count) => Memory::Words(vec![in heap; 0; count]?),
-            Store::Pages(count) => Memory::Pages(vec![in heap; 0; count]?),
-            Store::Image => Memory::Pages(image.unwrap_or(&[]).to_vec(heap)?),
+            Store::Pages(count) => Memory::Pages(Pages::Wiped(vec![in heap; 0; count]?)),
+            Store::Image => Memory::Pages(Pages::Mounted(image.unwrap_or(&[]).to_vec(heap)?)),
         })
     }
 
@@ -97,7 +121,7 @@ impl Memory {
     fn check(&self) -> Result<(), Fault> {
         match self {
             Memory::Words(words) => WordMailbox::check(words),
-            Memory::Pages(bytes) => PageMailbox::check(bytes).map(|_| ()),
+            Memory::Pages(pages) => PageMailbox::check(pages.bytes()).map(|_| ()),
         }
     }
 }
@@ -139,7 +163,7 @@ fn begin<C: Recorded, W: Write>(
     Ok(open(script, opening, &mut table, low, high)?)
 }
 
-// Opens the mailbox over its memory, and serves the cluster. Memory that is all zero is mounted as an empty mailbox.
+// Opens the mailbox over its memory, and serves the cluster.
 fn open<C: Recorded, W: Write>(
     script: &mut Script<W>,
     opening: Option<Opening>,
@@ -151,14 +175,14 @@ fn open<C: Recorded, W: Write>(
         (Memory::Words(mut words), None) => {
             serve(script, opening, table, &mut WordMailbox::open(&mut words))
         }
-        (Memory::Pages(mut bytes), None) => {
-            serve(script, opening, table, &mut PageMailbox::mount(&mut bytes))
+        (Memory::Pages(mut pages), None) => {
+            serve(script, opening, table, &mut pages.open())
         }
         (Memory::Words(mut words), Some(high)) => {
             beside(script, opening, table, WordMailbox::open(&mut words), high)
         }
-        (Memory::Pages(mut bytes), Some(high)) => {
-            beside(script, opening, table, PageMailbox::mount(&mut bytes), high)
+        (Memory::Pages(mut pages), Some(high)) => {
+            beside(script, opening, table, pages.open(), high)
         }
     }
 }
@@ -176,8 +200,8 @@ fn beside<C: Recorded, A: Imaged + Drop, W: Write>(
             let mut mailbox = Overflow::new(first, WordMailbox::open(&mut words));
             serve(script, opening, table, &mut mailbox)
         }
-        Memory::Pages(mut bytes) => {
-            let mut mailbox = Overflow::new(first, PageMailbox::mount(&mut bytes));
+        Memory::Pages(mut pages) => {
+            let mut mailbox = Overflow::new(first, pages.open());
             serve(script, opening, table, &mut mailbox)
         }
     }
