@@ -5,6 +5,8 @@ use registers::gset::Member;
 use registers::max_register::Revision;
 use replication::call::Call;
 
+pub(crate) const CALLS: usize = 30;
+
 fn report(station: usize, report: CardReport) -> Call<CardReport> {
     Call::Report { station, report }
 }
@@ -15,7 +17,7 @@ fn fetch(station: usize, message: usize) -> Call<CardReport> {
 
 // Message 0 is lost: it is discarded before anyone has fetched it. The next delta of station 0 then meets a gap, which its full
 // message heals; that one is fetched twice. The first full message of station 1 is overtaken by its second.
-pub(crate) fn calls() -> [Call<CardReport>; 30] {
+pub(crate) fn calls() -> [Call<CardReport>; CALLS] {
     [
         report(0, erased(Amount(5))),
         report(0, erased(Amount(2))),

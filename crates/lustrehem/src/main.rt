@@ -53,7 +53,7 @@ fn choose<W: Write>(rt: &HostRuntime, out: &mut W) -> Result<(), Failure> {
     let mut args = env::args(rt)?;
     let _program = args.next();
     let Some(mode) = args.next() else {
-        return Ok(task::run(rt.alloc(), out)?);
+        return Ok(task::run(out)?);
     };
     match (mode.as_str(), args.next(), args.next(), args.next()) {
         ("--help", None, None, None) => Ok(writeln!(out, "{HELP}")?),

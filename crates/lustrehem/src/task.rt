@@ -1,7 +1,7 @@
 // A day at three stations that look after the cards of one family: a history of calls, on messages that wait on a card's pages.
 // One message is lost, one comes twice, one is overtaken by a newer one. Then power is lost, the same bytes are mounted again,
 // and a damaged copy and an image in the other byte order are refused.
-use crate::day::calls;
+use crate::day::{CALLS, calls};
 use crate::image::{damaged_copy, list_messages, other_order};
 use crate::show::{AnswerOf, CallOf, Counts};
 use anyhow::anyhow;
@@ -14,7 +14,6 @@ use replication::answer::{Answer, Reply};
 use replication::call::Call;
 use replication::replay::replay;
 use stations::station::Station;
-use std::alloc::Global;
 use std::io::Write;
 use words::word::LONGEST;
 
@@ -24,7 +23,7 @@ const RATED: u32 = 60;
 // How many calls were made by noon.
 const NOON: usize = 19;
 
-pub(crate) fn run<W: Write>(heap: Global, out: &mut W) -> anyhow::Result<()> {
+pub(crate) fn run<W: Write>(out: &mut W) -> anyhow::Result<()> {
     writeln!(
         out,
         "card family LX-4, rated for {RATED} erased blocks, at three stations"
@@ -32,8 +31,7 @@ pub(crate) fn run<W: Write>(heap: Global, out: &mut W) -> anyhow::Result<()> {
     let calls = calls();
     let mut image = [0u8; 4096];
     let mut stations = [Station::new(0); 3];
-    history(
-        heap,
+    let _ = history(
         &mut stations,
         PageMailbox::wipe(&mut image),
         &calls[0..NOON],
@@ -41,7 +39,7 @@ pub(crate) fn run<W: Write>(heap: Global, out: &mut W) -> anyhow::Result<()> {
     writeln!(out, "by noon, after {NOON} calls:")?;
     decide(out, &stations[0])?;
     writeln!(out, "the whole day:")?;
-    let answers = history(heap, &mut stations, PageMailbox::wipe(&mut image), &calls)?;
+    let answers = history(&mut stations, PageMailbox::wipe(&mut image), &calls)?;
     list_answers(out, &calls, &answers)?;
     writeln!(
         out,
@@ -58,12 +56,11 @@ pub(crate) fn run<W: Write>(heap: Global, out: &mut W) -> anyhow::Result<()> {
 
 // Runs calls on an empty mailbox, lets the mailbox go, and gives the answers.
 fn history<M: Mailbox + Drop>(
-    heap: Global,
     stations: &mut [Station<CardRecord>],
     mut mailbox: M,
     calls: &[Call<CardReport>],
-) -> anyhow::Result<Vec<Answer>> {
-    let mut answers = vec![in heap; Ok(Reply::Done); calls.len()]?;
+) -> anyhow::Result<[Answer; CALLS]> {
+    let mut answers = [Ok(Reply::Done); CALLS];
     let mut words = [0; LONGEST];
     replay(stations, &mut mailbox, calls, &mut answers, &mut words).map_err(|_| anyhow!(
         "the calls were not begun"

@@ -92,7 +92,7 @@ show 0: clock {0:2}, erased {0:7} total 7, taken {} total 0, returned {} total 0
 #[test]
 fn the_task_is_told_as_written(rt: HostRuntime) -> Result<(), Fail> {
     let mut out = Vec::new(rt.alloc());
-    task::run(rt.alloc(), &mut out)?;
+    task::run(&mut out)?;
     assert!(rt; out.as_slice() == TASK.as_bytes());
     Ok(())
 }
