@@ -175,9 +175,7 @@ fn open<C: Recorded, W: Write>(
         (Memory::Words(mut words), None) => {
             serve(script, opening, table, &mut WordMailbox::open(&mut words))
         }
-        (Memory::Pages(mut pages), None) => {
-            serve(script, opening, table, &mut pages.open())
-        }
+        (Memory::Pages(mut pages), None) => serve(script, opening, table, &mut pages.open()),
         (Memory::Words(mut words), Some(high)) => {
             beside(script, opening, table, WordMailbox::open(&mut words), high)
         }
