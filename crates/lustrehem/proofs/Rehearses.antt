@@ -62,7 +62,7 @@ module _ {S R : Type 0} (K : Ghosts S R) where
   plain_obeyed ws y z (command.Stations n) x e p = absurd (not_some x e)
   plain_obeyed ws y z (command.Mailbox m) x e p = absurd (not_some x e)
   plain_obeyed ws y z (command.Report s w n) x e p = absurd (not_some x e)
-  plain_obeyed ws y z command.Put x e p = absurd (not_some x e)
+  plain_obeyed ws y z (command.Put n) x e p = absurd (not_some x e)
   plain_obeyed ws y z (command.Show s) x e p = absurd (not_some x e)
   plain_obeyed ws y z (command.Compare s t) x e p = absurd (not_some x e)
   plain_obeyed ws y z command.Image x e p = absurd (not_some x e)

@@ -11,7 +11,7 @@
 --                            station s reports is a report of the record kind, or nothing where the kind has none of that sort
 --     plain_of c             the call that command c asks for, where it is one that every record kind has
 --     RehearsalPromised K    calls alone, from a fresh cluster, are a history, and all that is promised of histories holds of it
-use Rattle.std.specs.Prelude.{◌≡◌, ℕ, false, ◌⊎◌, List, [], ◌∷◌, length, Some, None, Option}
+use Rattle.std.specs.Prelude.{◌≡◌, ℕ, min, false, ◌⊎◌, List, [], ◌∷◌, length, take, Some, None, Option}
 use Rattle.crdt.specs.declared.kind.Crdt.{Ghosts}
 use Rattle.mailboxes.specs.Mailboxes.{put_leaves}
 use Rattle.histories.specs.Clusters.{Cluster}
@@ -54,7 +54,7 @@ plain_of (command.Mailbox m) = None
 plain_of (command.Report s w n) = None
 plain_of (command.SendDelta s) = Some (stored.SendDelta s)
 plain_of (command.SendFull s) = Some (stored.SendFull s)
-plain_of command.Put = None
+plain_of (command.Put n) = None
 plain_of (command.Fetch s k) = Some (stored.Fetch s k)
 plain_of (command.Discard k) = Some (stored.Discard k)
 plain_of command.Count = Some stored.Count
@@ -86,7 +86,7 @@ module _ {S R : Type 0} (K : Ghosts S R) where
     Obeyed (command.Report s w n) = ((r : R) × Made y (report s r) z) ⊎ (z ≡ y)
     Obeyed (command.SendDelta s) = Made y (send_delta s 127) z
     Obeyed (command.SendFull s) = Made y (send_full s 127) z
-    Obeyed command.Put = Delivered y ws z
+    Obeyed (command.Put n) = Delivered y (take (min n 255) ws) z
     Obeyed (command.Fetch s k) = Made y (fetch s k 127) z
     Obeyed (command.Discard k) = Made y (discard k) z
     Obeyed command.Count = Made y count z

@@ -101,7 +101,7 @@ fn obey<C: Recorded, M: Imaged, W: Write>(
     words: &mut [u32; LONGEST],
 ) -> io::Result<()>
     ensures lines { Rehearsed C.Crdt (cluster_of C.Crdt M.Mailbox table.old mailbox.old) (cluster_of C.Crdt M.Mailbox table.new mailbox.new) }
-    ensures obeyed { Obeyed C.Crdt script.old.words.items (cluster_of C.Crdt M.Mailbox table.old mailbox.old) (cluster_of C.Crdt M.Mailbox table.new mailbox.new) command }
+    ensures obeyed { Obeyed C.Crdt script.old.words (cluster_of C.Crdt M.Mailbox table.old mailbox.old) (cluster_of C.Crdt M.Mailbox table.new mailbox.new) command }
 {
     match command {
         Command::Report {
@@ -115,7 +115,10 @@ fn obey<C: Recorded, M: Imaged, W: Write>(
             }
             None => script.misunderstood(C::REPORTABLE),
         },
-        Command::Put => put(script.out, mailbox, script.words.as_slice()),
+        Command::Put { len } => {
+            let len = len.min(script.words.len());
+            put(script.out, mailbox, &script.words[..len])
+        }
         Command::Show { station } => {
             let station = station_at(table, station).map(StationOf);
             tell(script.out, command, station)

@@ -1,6 +1,5 @@
 // The lines of a script, one after another.
 use crate::failure::Failure;
-use arrayvec::ArrayVec;
 use scripts::command::Command;
 use scripts::store::{MailboxShape, Store};
 use scripts::understand::understand;
@@ -23,8 +22,8 @@ pub(crate) struct Script<'a, W> {
     pub(crate) image: Option<&'a [u8]>,
     // How many lines were not understood.
     wrong: usize,
-    // The words of the put that was read last.
-    pub(crate) words: ArrayVec<u32, 255>,
+    // The words of the put that was read last stand at the front.
+    pub(crate) words: [u32; 255],
 }
 
 // Whether a line asks for the image.
@@ -53,7 +52,7 @@ impl<'a, W: Write> Script<'a, W> {
             line: 0,
             image,
             wrong: 0,
-            words: ArrayVec::new(),
+            words: [0; 255],
         }
     }
 

@@ -1,5 +1,4 @@
 // What lines of a script ask for.
-use arrayvec::ArrayVec;
 use scripts::command::Command;
 use scripts::expected::Expected;
 use scripts::record_kind::RecordKind;
@@ -55,7 +54,7 @@ const LINES: [Case; 24] = [
         "compare 2 3",
         Ok(Some(Command::Compare { left: 2, right: 3 })),
     ),
-    Case("put", Ok(Some(Command::Put))),
+    Case("put", Ok(Some(Command::Put { len: 0 }))),
     Case("put 100000000", Err(Expected::Words)),
     Case("put 1 g", Err(Expected::Words)),
 ];
@@ -63,7 +62,7 @@ const LINES: [Case; 24] = [
 #[test]
 fn what_lines_ask_for(rt: HostRuntime) {
     for case in &LINES {
-        let mut words = ArrayVec::new();
+        let mut words = [0; 255];
         assert_eq!(rt;
             understand(case.0.as_bytes(), &mut words),
             case.1,
@@ -75,10 +74,13 @@ fn what_lines_ask_for(rt: HostRuntime) {
 
 #[test]
 fn words_that_are_put(rt: HostRuntime) {
-    let mut words = ArrayVec::from([7; 255]);
+    let mut words = [7; 255];
     assert_eq!(rt;
         understand(b"put 20000009 f 00abCDEF", &mut words),
-        Ok(Some(Command::Put))
+        Ok(Some(Command::Put { len: 3 }))
     );
-    assert_eq!(rt; words.as_slice(), [0x2000_0009, 15, 0x00AB_CDEF].as_slice());
+    assert_eq!(rt;
+        [words[0], words[1], words[2], words[3]],
+        [0x2000_0009, 15, 0x00AB_CDEF, 7]
+    );
 }

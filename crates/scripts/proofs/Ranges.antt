@@ -1,6 +1,6 @@
 -- The numbers of a command that is understood are in range.
 use Rattle.std.proofs.Common.{◌≡◌, ℕ, ◌+◌, ◌<◌, ◌&&◌, ltb, leb, List, [], ◌∷◌, length, Some, None, Ok, Err, Option, Result, arith}
-use Rattle.std.proofs.lemmas.Bool.{ltb-true, cond_both}
+use Rattle.std.proofs.lemmas.Bool.{ltb-true, leb-true, and_parts, cond_both}
 use Rattle.scripts.specs.declared.command.Command.{Command}
 use Rattle.scripts.specs.declared.command.Command.TheVariants as command
 use Rattle.scripts.specs.declared.expected.Expected.{Expected}
@@ -124,7 +124,9 @@ compare_all =
     (λ s hs. after_number InRange top expected.Station (λ t. gives (command.Compare s t)) (λ t ht us. (hs, ht)))
 
 put_all : All InRange put_of
-put_all ts = cond_both (all_words ts && leb (length ts) 255) (Ok (command.Put, [])) (Err expected.Words) (Read InRange) (λ e. tt) (λ e. tt)
+put_all ts =
+    cond_both (all_words ts && leb (length ts) 255) (Ok (command.Put (length ts), [])) (Err expected.Words) (Read InRange)
+    (λ e. leb-true (length ts) 255 (and_parts (all_words ts) (leb (length ts) 255) e).1) (λ e. tt)
 
 asked_all : (v : Verb) → All InRange (asked v)
 asked_all verb.Record = after_word InRange (named record_kinds) expected.RecordKind (λ k. gives (command.Record k)) (λ k us. tt)

@@ -1,12 +1,11 @@
 -- What the words of a line ask for. Assumes nothing.
 --     asked v              what a verb and the words after it ask for
 --     put_of               the words of a put, of which at most 255 are taken
---     written ts           the words that ts write, up to the first that writes none
---     words_put ts         what a put leaves of the given words: the first 255 of those
+--     words_put ts old     old, with the words that ts write in front, up to the first that writes none
 --     leaves v ts old      what a verb and the words ts after it leave of the given words
 --     understood ts        what the words of a line ask for: nothing, a command, or what should have stood there
 --     words_after ts old   what they leave of the given words
-use Rattle.std.specs.Prelude.{ℕ, Bool, true, cond, ◌&&◌, List, [], ◌∷◌, length, take, is_some, Some, None, Ok, Err, Option, Result, nat_le}
+use Rattle.std.specs.Prelude.{ℕ, Bool, true, cond, ◌&&◌, List, [], ◌∷◌, length, is_some, Some, None, Ok, Err, Option, Result, nat_le}
 use Rattle.scripts.specs.declared.command.Command.{Command}
 use Rattle.scripts.specs.declared.command.Command.TheVariants as command
 use Rattle.scripts.specs.declared.expected.Expected.{Expected}
@@ -71,7 +70,7 @@ all_words [] = true
 all_words (t ∷ ts) = is_some (hexadecimal_of t) && all_words ts
 
 abbrev pub put_of : Reading Command
-put_of ts = cond (all_words ts && nat_le (length ts) 255) (Ok (command.Put, [])) (Err expected.Words)
+put_of ts = cond (all_words ts && nat_le (length ts) 255) (Ok (command.Put (length ts), [])) (Err expected.Words)
 
 abbrev pub asked : Verb → Reading Command
 asked verb.Record = record_word then λ k. gives (command.Record k)
@@ -102,16 +101,14 @@ abbrev pub understood : List (List ℕ) → Result (Option Command) Expected
 understood [] = Ok None
 understood (t ∷ ts) = whole ((command_word then asked) (t ∷ ts))
 
-abbrev pub before : Option ℕ → List ℕ → List ℕ
-before None ws = []
-before (Some w) ws = w ∷ ws
+abbrev pub in_front : Option ℕ → List ℕ → ℕ → List ℕ → List ℕ
+in_front None more o os = o ∷ os
+in_front (Some w) more o os = w ∷ more
 
-abbrev pub written : List (List ℕ) → List ℕ
-written [] = []
-written (t ∷ ts) = before (hexadecimal_of t) (written ts)
-
-abbrev pub words_put : List (List ℕ) → List ℕ
-words_put ts = take 255 (written ts)
+abbrev pub words_put : List (List ℕ) → List ℕ → List ℕ
+words_put [] os = os
+words_put (t ∷ ts) [] = []
+words_put (t ∷ ts) (o ∷ os) = in_front (hexadecimal_of t) (words_put ts os) o os
 
 abbrev pub leaves : Verb → List (List ℕ) → List ℕ → List ℕ
 leaves verb.Record ts old = old
@@ -119,7 +116,7 @@ leaves verb.Stations ts old = old
 leaves verb.Mailbox ts old = old
 leaves verb.Report ts old = old
 leaves verb.Send ts old = old
-leaves verb.Put ts old = words_put ts
+leaves verb.Put ts old = words_put ts old
 leaves verb.Fetch ts old = old
 leaves verb.Discard ts old = old
 leaves verb.Count ts old = old

@@ -2,7 +2,7 @@
 --     InRange c         the numbers of a command are those that a line can hold
 --     Ranged r          an answer's command, if it has one, is in range
 --     PrintedBack       what is printed of such a command is understood as it; but for a put, which is printed without its words
-use Rattle.std.specs.Prelude.{◌≡◌, ◌^◌, ◌<◌, ◌≤◌, Some, None, Ok, Err, Option, Result, ◌≢◌}
+use Rattle.std.specs.Prelude.{◌≡◌, ℕ, ◌^◌, ◌<◌, ◌≤◌, Some, None, Ok, Err, Option, Result, ◌≢◌}
 use Rattle.scripts.specs.declared.command.Command.{Command}
 use Rattle.scripts.specs.declared.command.Command.TheVariants as command
 use Rattle.scripts.specs.declared.expected.Expected.{Expected}
@@ -30,7 +30,7 @@ InRange (command.Mailbox m) = Sizes m
 InRange (command.Report s w n) = (s < 2 ^ 64) × (n < 2 ^ 32)
 InRange (command.SendDelta s) = s < 2 ^ 64
 InRange (command.SendFull s) = s < 2 ^ 64
-InRange command.Put = Unit {0}
+InRange (command.Put n) = n ≤ 255
 InRange (command.Fetch s m) = (s < 2 ^ 64) × (m < 2 ^ 64)
 InRange (command.Discard m) = m < 2 ^ 64
 InRange command.Count = Unit {0}
@@ -46,4 +46,4 @@ Ranged (Ok (Some c)) = InRange c
 Ranged (Err e) = Unit {0}
 
 abbrev pub PrintedBack : Type 0
-PrintedBack = (c : Command) → InRange c → c ≢ command.Put → understood (tokens (shown c)) ≡ Ok (Some c)
+PrintedBack = (c : Command) → InRange c → ((n : ℕ) → c ≢ command.Put n) → understood (tokens (shown c)) ≡ Ok (Some c)

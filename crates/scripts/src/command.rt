@@ -23,8 +23,10 @@ pub enum Command {
     SendFull {
         station: usize,
     },
-    // Its words are the given words.
-    Put,
+    // That many words stand at the front of the given words.
+    Put {
+        len: usize,
+    },
     Fetch {
         station: usize,
         message: usize,
@@ -65,7 +67,7 @@ impl fmt::Display for Command {
             } => write!(f, "report {station} {what} {value}"),
             Command::SendDelta { station } => write!(f, "send delta {station}"),
             Command::SendFull { station } => write!(f, "send full {station}"),
-            Command::Put => write!(f, "put"),
+            Command::Put { .. } => write!(f, "put"),
             Command::Fetch { station, message } => write!(f, "fetch {station} {message}"),
             Command::Discard { message } => write!(f, "discard {message}"),
             Command::Count => write!(f, "count"),

@@ -11,7 +11,6 @@ use crate::keywords::{Keyword, Kind, Shape, Verb};
 use crate::numbers::hexadecimal;
 use crate::store::{MailboxShape, Store};
 use crate::tokens::Tokens;
-use arrayvec::ArrayVec;
 
 // A store after its first word.
 fn store(shape: Shape, tokens: &mut Tokens) -> Result<Store, Expected>
@@ -75,17 +74,21 @@ fn send(tokens: &mut Tokens) -> Result<Command, Expected>
 }
 
 // Every word that is left goes to the given words. Where one is refused, those before it are there.
-fn put(tokens: &mut Tokens, words: &mut ArrayVec<u32, 255>) -> Result<Command, Expected>
+fn put(tokens: &mut Tokens, words: &mut [u32; 255]) -> Result<Command, Expected>
     ensures answer { Reads put_of (left tokens.old) result (left tokens.new) }
-    ensures words { words.new.items ≡ words_put (left tokens.old) }
+    ensures words { words.new ≡ words_put (left tokens.old) words.old }
 {
-    words.clear();
+    let mut len = 0;
     // `while let`: after `for token in tokens` nothing is known of what `tokens` has left
     while let Some(token) = tokens.next() {
         let word = hexadecimal(token).ok_or(Expected::Words)?;
-        words.try_push(word).map_err(|_| Expected::Words)?;
+        if len == words.len() {
+            return Err(Expected::Words);
+        }
+        words[len] = word;
+        len += 1;
     }
-    Ok(Command::Put)
+    Ok(Command::Put { len })
 }
 
 fn fetch(tokens: &mut Tokens) -> Result<Command, Expected>
@@ -106,13 +109,9 @@ fn compare(tokens: &mut Tokens) -> Result<Command, Expected>
 }
 
 // What a verb and the words after it ask for.
-fn asked(
-    verb: Verb,
-    tokens: &mut Tokens,
-    words: &mut ArrayVec<u32, 255>,
-) -> Result<Command, Expected>
+fn asked(verb: Verb, tokens: &mut Tokens, words: &mut [u32; 255]) -> Result<Command, Expected>
     ensures answer { Reads (asked verb) (left tokens.old) result (left tokens.new) }
-    ensures words { words.new.items ≡ leaves verb (left tokens.old) words.old.items }
+    ensures words { words.new ≡ leaves verb (left tokens.old) words.old }
 {
     match verb {
         Verb::Record => Ok(Command::Record(tokens.keyword(Expected::RecordKind)?)),
@@ -140,13 +139,13 @@ fn asked(
     }
 }
 
-// Understands one line: None where it asks for nothing. After a put `words` holds the words that are put, and no others; where one
-// of them is refused, those before it. What is printed of a command is understood as that command, but for a put, which is printed
-// without its words.
+// Understands one line: None where it asks for nothing. The words of a put go to the front of `words`; where one of them is
+// refused, those before it are there. What is printed of a command is understood as that command, but for a put, which is
+// printed without its words.
 #[tactic(auto, using(crate::proofs::Back::printed_back))]
-pub fn understand(line: &[u8], words: &mut ArrayVec<u32, 255>) -> Result<Option<Command>, Expected>
+pub fn understand(line: &[u8], words: &mut [u32; 255]) -> Result<Option<Command>, Expected>
     ensures answer { result ≡ understood (tokens_of line.now) }
-    ensures words { words.new.items ≡ words_after (tokens_of line.now) words.old.items }
+    ensures words { words.new ≡ words_after (tokens_of line.now) words.old }
     ensures range { Ranged result }
     ensures law { PrintedBack }
 {

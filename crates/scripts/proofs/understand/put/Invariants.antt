@@ -1,11 +1,12 @@
-use Rattle.std.proofs.Common.{◌≡◌, ◌≤◌, ◌++◌, length, take}
-use Rattle.scripts.specs.Grammar.{put_of, written}
+use Rattle.std.proofs.Common.{◌≡◌, ◌≤◌, ◌++◌, length, take, drop}
+use Rattle.scripts.specs.Grammar.{put_of, words_put}
 use Rattle.scripts.specs.Tokens.{left}
 use Rattle.scripts.proofs.Puts.{put_on}
 use Rattle.scripts.proofs.understand.put.Given as goal
 
 abbrev pub invariant-loop-token : goal.invariant-loop-token
 invariant-loop-token l =
-    (length l.words.items ≤ 255)
-    × (put_on (length l.words.items) (left l.tokens) ≡ put_of (left l.initial.tokens))
-    × (take 255 (l.words.items ++ written (left l.tokens)) ≡ take 255 (written (left l.initial.tokens)))
+    (l.len ≤ 255)
+    × (put_on l.len (left l.tokens) ≡ put_of (left l.initial.tokens))
+    × (take l.len l.words ++ words_put (left l.tokens) (drop l.len l.words) ≡ words_put (left l.initial.tokens) l.initial.words)
+    × (length l.words ≡ 255)
