@@ -1,10 +1,12 @@
 -- The bytes of a page, and the words that they are read as. Assumes nothing.
-use Rattle.std.proofs.Common.{◌≡◌, ℕ, zero, suc, ◌+◌, ◌-◌, ◌*◌, ◌/◌, ◌%◌, ◌^◌, ◌<◌, ◌≤◌, List, [], ◌∷◌, ◌++◌, length, get_or, take, drop, replicate, sym, refl, ap, ◌∙◌, append_assoc, add-zero, mul-zero, mul-suc, arith, lit<}
+use Rattle.std.proofs.Common.{◌≡◌, ℕ, zero, suc, ◌+◌, ◌-◌, ◌*◌, ◌/◌, ◌%◌, ◌^◌, ◌<◌, ◌≤◌, List, [], ◌∷◌, ◌++◌, length, get_or, take, drop, replicate, sym, refl, ap, ◌∙◌, append_assoc, add_assoc, zero-add, add-zero, mul-zero, mul-suc, arith, lit<}
 use native.Mathlib.Nat.{div-div-eq-div-mul}
+use lib.Seq.{paste}
 use borrow.Rule.Slice.PartMut.{put_mid}
 use Rattle.std.specs.Int.{w32, from_le_bytes}
 use Rattle.std.specs.Simd.{first_chunks}
-use Rattle.std.proofs.lemmas.List.{append-nil, length-append, length-take-le, drop-drop, take_at, drop_at, length-replicate, drop-replicate, take_more, get_or-drop, get_or-take}
+use Rattle.std.proofs.lemmas.List.{append-nil, length-append, length-take-le, length-drop, drop-drop, take_at, drop_at, length-replicate, drop-replicate, take_more, get_or-drop, get_or-take, take-take}
+use Rattle.std.proofs.lemmas.List.Edits.{take-paste, drop-paste}
 use Rattle.layouts.specs.Rows.{head}
 use Rattle.layouts.specs.Pages.{le_bytes, bytes_of, words_of, word_at, page_length, page_message, page_of}
 
@@ -99,6 +101,39 @@ pub words_of_at : (n i : ℕ) (bs : List ℕ) → i < n → get_or (words_of n b
 words_of_at zero i bs h = absurd (omega arith)
 words_of_at (suc n) zero bs h = refl
 words_of_at (suc n) (suc i) bs h = let e : 4 + 4 * i ≡ 4 * suc i = omega arith in words_of_at n i (drop 4 bs) (omega arith) ∙ word_at_drop bs 4 (4 * i) (4 * suc i) e
+
+take-add : (j n : ℕ) (xs : List ℕ) → take (j + n) xs ≡ take j xs ++ take n (drop j xs)
+take-add zero n xs = ap (λ x. take x xs) (zero-add n)
+take-add (suc j) n [] = take_nil (suc j + n) ∙ sym (take_nil n)
+  where
+    take_nil : (k : ℕ) → take {A = ℕ} k [] ≡ []
+    take_nil zero = refl
+    take_nil (suc k) = refl
+take-add (suc j) n (x ∷ xs) = let e : suc j + n ≡ suc (j + n) = omega arith in ap (λ k. take k (x ∷ xs)) e ∙ ap (λ r. x ∷ r) (take-add j n xs)
+
+pub paste_cut : (d : List ℕ) (at : ℕ) (s : List ℕ) (n : ℕ) → paste d at (take n s) n ≡ paste d at s n
+paste_cut d at s n = ap (λ x. (take at d ++ x) ++ drop (at + n) d) (take-take n n s (omega arith))
+
+drop_past_paste : (d : List ℕ) (at : ℕ) (s : List ℕ) (n q : ℕ) → at + n ≤ q → at ≤ length d → n ≤ length s → drop q (paste d at s n) ≡ drop q d
+drop_past_paste d at s n q h l r =
+    let e : at + n + (q - (at + n)) ≡ q = omega arith in
+    ap (λ x. drop x (paste d at s n)) (sym e) ∙ sym (drop-drop (q - (at + n)) (at + n) (paste d at s n))
+    ∙ ap (drop (q - (at + n))) (drop-paste d at s n l r) ∙ drop-drop (q - (at + n)) (at + n) d ∙ ap (λ x. drop x d) e
+
+-- one block more moved down, from `from` to `to`
+pub move_block : (b now new : List ℕ) (to from j n : ℕ) → to ≤ from → from + j + n ≤ length b → now ≡ paste b to (drop from b) j → new ≡ paste now (to + j) (drop (from + j) now) n → new ≡ paste b to (drop from b) (j + n)
+move_block b now new to from j n h l e f =
+    let d = drop from b in
+    let ld : j ≤ length d = simp length-drop (omega arith) in
+    let p = paste b to d j in
+    let t : take (to + j) p ≡ take to b ++ take j d = take-paste b to d j (omega arith) ld in
+    let q : drop (from + j) p ≡ drop j d = drop_past_paste b to d j (from + j) (omega arith) (omega arith) ld ∙ sym (drop-drop j from b) in
+    let r : drop (to + j + n) p ≡ drop (to + (j + n)) b = drop_past_paste b to d j (to + j + n) (omega arith) (omega arith) ld ∙ ap (λ x. drop x b) (add_assoc to j n) in
+    f ∙ ap (λ x. paste x (to + j) (drop (from + j) x) n) e
+    ∙ ap (λ x. (take (to + j) p ++ take n x) ++ drop (to + j + n) p) q
+    ∙ ap (λ x. (x ++ take n (drop j d)) ++ drop (to + j + n) p) t
+    ∙ ap (λ x. ((take to b ++ take j d) ++ take n (drop j d)) ++ x) r
+    ∙ ap (λ x. x ++ drop (to + (j + n)) b) (append_assoc (take to b) (take j d) (take n (drop j d)) ∙ ap (λ x. take to b ++ x) (sym (take-add j n d)))
 
 -- chunk i of n bytes
 pub chunk_at : (n k i : ℕ) (bs d : List ℕ) → i < k → get_or (first_chunks n k bs) i d ≡ take n (drop (n * i) bs)

@@ -2,7 +2,7 @@
 use Rattle.std.proofs.Common.{◌≡◌, ℕ, zero, suc, ◌+◌, ◌-◌, ◌*◌, ◌<◌, ◌≤◌, min, List, [], ◌∷◌, ◌++◌, length, get_or, take, drop, replicate, sym, refl, ap, ◌∙◌, append_assoc, zero-add, add-one, arith}
 use lib.Seq.{paste}
 use borrow.Rule.Slice.PartMut.{put_mid}
-use Rattle.std.specs.List.{remove, copy_within}
+use Rattle.std.specs.List.{remove}
 use Rattle.std.proofs.lemmas.List.{length-take-le, length-drop, take-append-drop, take-append-le, drop-append-le, drop-drop, take_at, drop_at, take_all, length-replicate}
 use Rattle.std.proofs.lemmas.List.Edits.{length-paste, take-paste}
 use Rattle.std.proofs.lemmas.Slice.{put_mid-paste}
@@ -129,10 +129,10 @@ moved_down_is k held bs h l =
     paste_put (paste bs (512 * k) d j) (512 * (held - 1)) (replicate 512 0) (replicate 512 0) 512 (take_all 512 (replicate 512 0) (omega (arith, length-replicate {A = ℕ} 512 0))) (sym (length-replicate {A = ℕ} 512 0))
     ∙ ap (λ x. put x (512 * (held - 1)) (replicate 512 0)) one
 
--- so they are after a move within the bytes and a fill
-pub closed_is : (k held : ℕ) (bs moved zeros : List ℕ) → k < held → 512 * held ≤ length bs → moved ≡ copy_within bs (512 * (k + 1)) (512 * held) (512 * k) → zeros ≡ replicate 512 0 → put_mid (512 * (held - 1)) (512 * held - 512 * (held - 1)) moved zeros ≡ page_closed k held bs
+-- so they are where the pages have been moved one by one, and the last is filled
+pub closed_is : (k held : ℕ) (bs moved zeros : List ℕ) → k < held → 512 * held ≤ length bs → moved ≡ paste bs (512 * k) (drop (512 * (k + 1)) bs) (512 * (held - 1 - k)) → zeros ≡ replicate 512 0 → put_mid (512 * (held - 1)) (512 * held - 512 * (held - 1)) moved zeros ≡ page_closed k held bs
 closed_is k held bs moved zeros h l em ez =
-    let j : 512 * held - 512 * (k + 1) ≡ 512 * (held - (k + 1)) = omega arith in
+    let j : 512 * (held - 1 - k) ≡ 512 * (held - (k + 1)) = omega arith in
     let one : moved ≡ paste bs (512 * k) (drop (512 * (k + 1)) bs) (512 * (held - (k + 1))) = em ∙ ap (paste bs (512 * k) (drop (512 * (k + 1)) bs)) j in
     put_mid-paste (512 * (held - 1)) (512 * held - 512 * (held - 1)) moved zeros (replicate 512 0) 512 ez (omega arith) (sym (length-replicate {A = ℕ} 512 0))
     ∙ ap (λ x. paste x (512 * (held - 1)) (replicate 512 0) 512) one

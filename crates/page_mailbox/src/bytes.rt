@@ -57,12 +57,18 @@ pub(crate) fn unpack(page: &[u8; PAGE], words: &mut [u32]) -> usize
     n
 }
 
-// Moves the pages after page k down by one, and zeroes the last of `held` pages.
+// Moves the pages after page k down by one, each through a spare page, and zeroes the last of `held` pages.
 pub(crate) fn close(bytes: &mut [u8], k: usize, held: usize)
     requires below { k < held }
     requires room { 512 * held ≤ length bytes.old }
     ensures { bytes.new ≡ page_closed k held bytes.old }
 {
-    bytes.copy_within(PAGE * (k + 1)..PAGE * held, PAGE * k);
+    let mut spare = [0; PAGE];
+    // By its place: of what a move within the bytes writes first nothing is said.
+    for i in k..held - 1 {
+        let place = PAGE * i;
+        spare.copy_from_slice(&bytes[place + PAGE..place + 2 * PAGE]);
+        bytes[place..place + PAGE].copy_from_slice(&spare);
+    }
     bytes[PAGE * (held - 1)..PAGE * held].fill(0);
 }

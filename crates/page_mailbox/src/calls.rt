@@ -41,9 +41,15 @@ impl<'a> Mailbox for PageMailbox<'a> {
             return Err(Refusal::Full);
         }
         let page = pack(message);
-        let place = PAGE * self.held;
+        let pages = self.pages;
+        let held = self.held;
+        // While a page is being written, no pages are in use.
+        self.pages = 0;
+        self.held = 0;
+        let place = PAGE * held;
         self.bytes[place..place + PAGE].copy_from_slice(&page);
-        self.held += 1;
+        self.pages = pages;
+        self.held = held + 1;
         Ok(())
     }
 
@@ -69,8 +75,14 @@ impl<'a> Mailbox for PageMailbox<'a> {
         if k >= self.held {
             return Err(Refusal::Absent);
         }
-        close(self.bytes, k, self.held);
-        self.held -= 1;
+        let pages = self.pages;
+        let held = self.held;
+        // While pages are being moved, none are in use.
+        self.pages = 0;
+        self.held = 0;
+        close(self.bytes, k, held);
+        self.pages = pages;
+        self.held = held - 1;
         Ok(())
     }
 

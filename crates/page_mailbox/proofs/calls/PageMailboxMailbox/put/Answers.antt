@@ -36,10 +36,14 @@ overflow_add-place c = let t = c.args.self.now in omega (arith, room t, takes_ro
 pub slice_bounds-copy_from_slice-end : goal.slice_bounds-copy_from_slice-end
 slice_bounds-copy_from_slice-end c = let t = c.args.self.now in omega (arith, room t, takes_room t (length c.args.message.now) (sym c.if-not-fits.ensures))
 
+-- with no pages in use the bytes are free
 pub invariant_of-self : goal.invariant_of-self
-invariant_of-self c =
+invariant_of-self c = record { messages = refl; extent = refl }
+
+pub invariant_of-self-2 : goal.invariant_of-self-2
+invariant_of-self-2 c =
     let t = c.args.self.now in
     let m = c.args.message.now in
     let f = sym c.if-not-fits.ensures in
-    let is = written (goal.at.invariant_of-self c).After-copy_from_slice in
+    let is = written (goal.at.invariant_of-self-2 c).After-copy_from_slice in
     record { messages = put_sound t m _ f is; extent = put_extent t m _ f is }
