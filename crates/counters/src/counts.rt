@@ -141,8 +141,9 @@ impl<K: CountKind> Crdt for Counts<K> {
     fn join(&mut self, other: &Counts<K>) {
         // By index: of what a loop over `iter_mut().zip(..)` has written nothing is known after it.
         for (i, theirs) in other.counts.iter().enumerate() {
+            let mine = K::low(self.counts[i]);
             let count = K::low(*theirs);
-            if K::low(self.counts[i]) < count {
+            if mine < count {
                 self.counts[i] = count;
             }
         }

@@ -2,3 +2,4 @@ pub mod Sixteen
 pub mod Rows
 pub mod Entries
 pub mod Fits
+pub mod Kinds

@@ -65,7 +65,10 @@ impl Crdt for MaxRegister {
     }
 
     fn join(&mut self, other: &MaxRegister) {
-        self.stored = self.value().max(other.value());
+        let theirs = other.value();
+        if self.value() < theirs {
+            self.stored = theirs;
+        }
     }
 
     fn delta(

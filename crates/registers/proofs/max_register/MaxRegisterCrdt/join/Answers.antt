@@ -1,9 +1,9 @@
-use Rattle.std.proofs.Common.{rules, ◌≡◌, ℕ, ◌%◌, ◌^◌, max, arith}
+use Rattle.std.proofs.Common.{arith}
 use Rattle.registers.specs.Values.{same_level}
 use Rattle.registers.proofs.max_register.MaxRegisterCrdt.join.Goals as goal
 
-larger : (m a b x y : ℕ) → m ≡ max a b → a ≡ x % 2 ^ 28 → b ≡ y % 2 ^ 28 → m % 2 ^ 28 ≡ max (x % 2 ^ 28) (y % 2 ^ 28)
-larger m a b x y e p q = omega arith
+pub returns-then-value-theirs : goal.returns-then-value-theirs
+returns-then-value-theirs c = same_level _ _ (omega arith)
 
-pub returns : goal.returns
-returns c = same_level _ _ (larger _ c.value.result c.value-2.result _ _ (search rules) c.value.ensures c.value-2.ensures)
+pub returns-else-value-theirs : goal.returns-else-value-theirs
+returns-else-value-theirs c = same_level _ _ (omega arith)
