@@ -36,7 +36,7 @@ pub trait CountKind: EntryKind + Copy {
 #[derive(Clone, Copy)]
 pub struct Counts<K> {
     pub counts: [u32; 16],
-    of: PhantomData<K>,
+    pub of: PhantomData<K>,
 }
 
 impl<K> From<[u32; 16]> for Counts<K> {

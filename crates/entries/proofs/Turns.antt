@@ -1,6 +1,9 @@
 -- The size of a row, and the turns of the loop that writes it. Assumes nothing.
 use Rattle.std.proofs.Common.{◌≡◌, ℕ, zero, suc, ◌+◌, ◌-◌, ◌%◌, ◌<◌, ◌≤◌, Bool, true, false, not, cond, eqb, List, [], ◌∷◌, ◌++◌, length, get_or, drop, set, replicate, map, filter, sym, refl, ap, ◌∙◌, subst, arith, length-append, length-set}
+use Rattle.std.specs.List.{sum_by}
 use Rattle.std.proofs.lemmas.List.{drop_more, drop_all, length-map, get_or-map}
+use Rattle.std.proofs.lemmas.List.Filters.{length-filter_both}
+use Rattle.std.proofs.lemmas.List.Sums.{length-filter}
 use Rattle.std.proofs.lemmas.Bool.{eq-eqb, ne_eqb, cond-true, cond-false}
 use Rattle.words.specs.Writes.{put}
 use Rattle.words.proofs.Writes.{put_step, put_last}
@@ -64,6 +67,14 @@ one_more false x w ys zs e = ap suc e
 filtered : (k i top : ℕ) (xs : List ℕ) → length (filter (λ x. not (eqb (x % (top + 1)) 0)) xs) ≡ length (entries k i (map (λ x. x % (top + 1)) xs))
 filtered k i top [] = refl
 filtered k i top (x ∷ xs) = one_more (eqb (x % (top + 1)) 0) x (entry_word k i (x % (top + 1))) _ _ (filtered k (i + 1) top xs)
+
+-- so they are where ones are summed
+pub summed : (top n : ℕ) (xs : List ℕ) → n ≡ sum_by (λ x. cond (not (eqb (x % (top + 1)) 0)) 1 0) xs → length xs ≡ 16 → (n ≡ length (filter (λ x. not (eqb (x % (top + 1)) 0)) xs)) × (n ≤ 16)
+summed top n xs e long =
+    let some = λ (x : ℕ). not (eqb (x % (top + 1)) 0) in
+    let is = e ∙ sym (length-filter some xs) in
+    let both = length-filter_both some (λ x. not (some x)) (λ x. refl) xs in
+    (is, omega (arith, is, both, long))
 
 pub row_sized : (k top : ℕ) (xs : List ℕ) → length xs ≡ 16 → 1 + length (filter (λ x. not (eqb (x % (top + 1)) 0)) xs) ≡ length (entries_and_end k 0 0 (row_of top xs).numbers)
 row_sized k top xs long =

@@ -15,7 +15,12 @@ pub fn size<K: EntryKind>(row: &[u32; 16]) -> usize
     ensures value { result ≡ length (row_written (kind_number K.WORD) (row_of K.TOP row.now)) }
     ensures bound { result ≤ 17 }
 {
-    1 + row.iter().filter(|stored| K::low(**stored) != 0).count()
+    // Summed, not counted: a filter branches at each number, and takes several times as long.
+    let entries: usize = row
+        .iter()
+        .map(|stored| usize::from(K::low(*stored) != 0))
+        .sum();
+    1 + entries
 }
 
 // Writes a row at a place, and answers the place after it.
