@@ -93,8 +93,11 @@ impl<L: Crdt, R: Crdt> Crdt for Pair<L, R> {
     }
 
     fn load(&mut self, reader: &mut Reader) -> Result<usize, Fault> {
-        self.right = R::bottom();
-        self.left.load(reader)?;
+        // No `?`: before it, the right side of each pair within a pair would be set to bottom whatever comes.
+        if let Err(fault) = self.left.load(reader) {
+            self.right = R::bottom();
+            return Err(fault);
+        }
         let answer = self.right.load(reader);
         // `inspect_err` does not say that what its closure captures stays as it is where nothing is refused.
         if answer.is_err() {

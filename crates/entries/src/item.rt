@@ -19,18 +19,20 @@ pub(crate) fn examine<K: EntryKind>(
 ) -> Result<Option<(u32, u32)>, Fault>
     ensures { told result ≡ found_at reader.now (examined (kind_number K.WORD) K.TOP low seen word.0) }
 {
-    if word.is(WordKind::End) {
+    // The fault is made in one place: made in three, no load of a row is compiled into its caller, and a card record loads slower.
+    let refusal = if word.is(WordKind::End) {
         if word.is_well_formed() && word.0 % 32 == seen {
             return Ok(None);
         }
-        return Err(reader.fault(Refusal::Form));
-    }
-    if !word.is(K::WORD) {
-        return Err(reader.fault(Refusal::Kind));
-    }
-    let number = K::low(word.0);
-    if word.is_well_formed() && word.index() >= low && number != 0 {
-        return Ok(Some((word.index(), number)));
-    }
-    Err(reader.fault(Refusal::Form))
+        Refusal::Form
+    } else if word.is(K::WORD) {
+        let number = K::low(word.0);
+        if word.is_well_formed() && word.index() >= low && number != 0 {
+            return Ok(Some((word.index(), number)));
+        }
+        Refusal::Form
+    } else {
+        Refusal::Kind
+    };
+    Err(reader.fault(refusal))
 }

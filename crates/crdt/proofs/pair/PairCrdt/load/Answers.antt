@@ -10,7 +10,7 @@ returns-then-is_err g c =
     let exact = g.met.L.Crdt.exact in
     let start = c.args.reader.now in
     let mid = c.load.new.reader in
-    let first = answered start (l.reading (left start)) _ c.in_ok-load.ensures.answer in
+    let first = answered start (l.reading (left start)) _ c.in_default.ensures.answer in
     let stands = c.load.ensures.reader in
     let told = c.load-answer.ensures.answer in
     record {
@@ -26,7 +26,7 @@ returns-else-is_err g c =
     let exact = g.met.L.Crdt.exact in
     let start = c.args.reader.now in
     let mid = c.load.new.reader in
-    let first = answered start (l.reading (left start)) _ c.in_ok-load.ensures.answer in
+    let first = answered start (l.reading (left start)) _ c.in_default.ensures.answer in
     let stands = c.load.ensures.reader in
     let told = c.load-answer.ensures.answer in
     record {
