@@ -93,7 +93,7 @@ impl<L: Crdt, R: Crdt> Crdt for Pair<L, R> {
     }
 
     fn load(&mut self, reader: &mut Reader) -> Result<usize, Fault> {
-        // No `?`: before it, the right side of each pair within a pair would be set to bottom whatever comes.
+        // No `?`: the right side would have to be set to bottom before it, in a load that is accepted too.
         if let Err(fault) = self.left.load(reader) {
             self.right = R::bottom();
             return Err(fault);
